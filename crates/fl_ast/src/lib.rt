@@ -1,0 +1,17 @@
+//! The trees of the language: programs, their adjoints, and what both are made of.
+#![tactic(auto)]
+
+mod adjoint;
+mod decl;
+mod directive;
+mod expr;
+mod kind;
+mod stmt;
+
+pub use adjoint::{AArm, AExpr, AStmt, Adjoint, AdjointText};
+pub use decl::{Bound, Decl, Dim, Factor, Sign, Term};
+pub use directive::{Directive, Schedule, ScheduleKind};
+pub use expr::{Cond, Expr, Place};
+pub use fl_base::{Memory, Name};
+pub use kind::{BinOp, Fun, Intent, Kind, RelOp};
+pub use stmt::{Arm, Program, Stmt};
