@@ -1,0 +1,71 @@
+ghost use Rattle.std.specs.Prelude.{◌≡◌, true};
+ghost use Rattle.fl_base.specs.Finds.{Finds};
+ghost use Rattle.fl_types.specs.declared.typed.TypeError.TheVariants.{Memory as memory};
+
+use crate::built::{is_built, is_ring_argument};
+use fl_ast::{Name, Program};
+use std::alloc::Global;
+use std::marker::Model;
+
+/// Why a program isn't typed.
+#[derive(Debug, Drop)]
+pub enum TypeError {
+    /// The program has something that isn't built yet.
+    NotBuilt,
+    Memory,
+}
+
+/// A program that was checked. Contracts see it as the program.
+#[derive(Drop)]
+pub struct Typed {
+    program: Program,
+}
+
+impl Model for Typed {
+    ghost use Rattle.std.specs.Prelude.{◌≡◌, true};
+    ghost use Rattle.std.specs.Coded.{codes};
+    ghost use Rattle.fl_ast.specs.declared.stmt.Program.{Program};
+    ghost use Rattle.fl_ast.specs.contracts.stmt.Stmt as stmt;
+
+    ghost Value = { Program };
+
+    ghost coded = { Prim.hlevel (codes, stmt.the_row.coded) };
+
+    ghost use Rattle.fl_types.specs.Built.{is_built};
+
+    ghost view = { λ t. t.program };
+
+    ghost invariant = { λ t. is_built t.program ≡ true };
+}
+
+impl Typed {
+    ghost use Rattle.fl_types.specs.Built.{is_built, is_ring_argument as is_ring_argument_lem};
+
+    pub fn program(&self) -> &Program
+        ensures program { result.now ≡ self.now }
+        ensures built { is_built self.now ≡ true }
+    {
+        &self.program
+    }
+
+    /// Whether the name is an argument of the ring kind.
+    pub fn is_ring_argument(&self, name: &Name) -> bool
+        ensures { result ≡ is_ring_argument_lem self.now name.now }
+    {
+        is_ring_argument(&self.program, name)
+    }
+}
+
+ghost use Rattle.fl_types.specs.Checked.{checked};
+
+#[tactic(auto, unfolding(crate::specs::Checked::checked))]
+/// Types a program, which it uses up.
+pub fn check(_alloc: Global, program: Program) -> Result<Typed, TypeError>
+    ensures { Finds (λ t. t) memory (checked program) result }
+{
+    if is_built(&program) {
+        Ok(Typed { program })
+    } else {
+        Err(TypeError::NotBuilt)
+    }
+}
