@@ -6,6 +6,8 @@ mod decl;
 mod directive;
 mod expr;
 mod kind;
+mod occurs;
+mod same;
 mod stmt;
 
 pub use adjoint::{AArm, AExpr, AStmt, Adjoint, AdjointText};
@@ -14,4 +16,5 @@ pub use directive::{Directive, Schedule, ScheduleKind};
 pub use expr::{Cond, Expr, Place};
 pub use fl_base::{Memory, Name};
 pub use kind::{BinOp, Fun, Intent, Kind, RelOp};
+pub use same::same_is_equal;
 pub use stmt::{Arm, Program, Stmt};

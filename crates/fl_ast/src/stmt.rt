@@ -1,7 +1,10 @@
-use crate::decl::Decl;
-use crate::directive::Directive;
+ghost use Rattle.std.specs.Prelude.{◌≡◌, IfOk};
+
+use crate::decl::{Decl, clone_decls};
+use crate::directive::{Directive, clone_names};
 use crate::expr::{Cond, Expr, Place};
-use fl_base::{Items, Name};
+use fl_base::{Items, Memory, Name};
+use std::alloc::Global;
 
 /// A statement, at the line of its first word. Loops are numbered from 1 in textual order.
 #[cycle(stmt)]
@@ -46,4 +49,157 @@ pub struct Program {
     pub args: Items<Name>,
     pub decls: Items<Decl>,
     pub body: Items<Stmt>,
+}
+
+/// A loop's variable and bounds.
+#[derive(Drop)]
+pub struct Head {
+    pub var: Name,
+    pub first: Expr,
+    pub last: Expr,
+    pub step: Option<Expr>,
+}
+
+fn clone_step(alloc: Global, step: &Option<Expr>) -> Result<Option<Expr>, Memory>
+    ensures { IfOk result (λ x. x ≡ step.now) }
+{
+    match step {
+        None => Ok(None),
+        Some(step) => Ok(Some(step.clone(alloc)?)),
+    }
+}
+
+pub fn clone_directive(
+    alloc: Global,
+    directive: &Option<Directive>,
+) -> Result<Option<Directive>, Memory>
+    ensures { IfOk result (λ x. x ≡ directive.now) }
+{
+    match directive {
+        None => Ok(None),
+        Some(directive) => Ok(Some(directive.clone(alloc)?)),
+    }
+}
+
+pub fn clone_head(
+    alloc: Global,
+    var: &Name,
+    first: &Expr,
+    last: &Expr,
+    step: &Option<Expr>,
+) -> Result<Head, Memory>
+    ensures { IfOk result (λ x. x ≡ record { var = var.now; first = first.now; last = last.now; step = step.now }) }
+{
+    let var = var.clone(alloc)?;
+    let first = first.clone(alloc)?;
+    let last = last.clone(alloc)?;
+    let step = clone_step(alloc, step)?;
+    Ok(Head {
+        var,
+        first,
+        last,
+        step,
+    })
+}
+
+impl Stmt {
+    #[cycle(stmt_clone)]
+    pub fn clone(&self, alloc: Global) -> Result<Stmt, Memory>
+        ensures { IfOk result (λ x. x ≡ self.now) }
+    {
+        match self {
+            Stmt::Assign {
+                line,
+                atomic,
+                target,
+                value,
+            } => Ok(Stmt::Assign {
+                line: *line,
+                atomic: *atomic,
+                target: target.clone(alloc)?,
+                value: value.clone(alloc)?,
+            }),
+            Stmt::If { line, arms, other } => Ok(Stmt::If {
+                line: *line,
+                arms: clone_arms(alloc, arms.as_slice())?,
+                other: clone_stmts(alloc, other.as_slice())?,
+            }),
+            Stmt::Do {
+                line,
+                number,
+                directive,
+                var,
+                first,
+                last,
+                step,
+                body,
+            } => {
+                let head = clone_head(alloc, var, first, last, step)?;
+                let directive = clone_directive(alloc, directive)?;
+                let body = clone_stmts(alloc, body.as_slice())?;
+                Ok(Stmt::Do {
+                    line: *line,
+                    number: *number,
+                    directive,
+                    var: head.var,
+                    first: head.first,
+                    last: head.last,
+                    step: head.step,
+                    body,
+                })
+            }
+        }
+    }
+}
+
+impl Arm {
+    #[cycle(stmt_clone)]
+    pub fn clone(&self, alloc: Global) -> Result<Arm, Memory>
+        ensures { IfOk result (λ x. x ≡ self.now) }
+    {
+        Ok(Arm {
+            test: self.test.clone(alloc)?,
+            body: clone_stmts(alloc, self.body.as_slice())?,
+        })
+    }
+}
+
+#[cycle(stmt_clone)]
+fn clone_stmts(alloc: Global, stmts: &[Stmt]) -> Result<Items<Stmt>, Memory>
+    ensures { IfOk result (λ x. x ≡ stmts.now) }
+{
+    let mut all = Items::new(alloc);
+    for i in 0..stmts.len() {
+        all.push(stmts[i].clone(alloc)?)?;
+    }
+    Ok(all)
+}
+
+#[cycle(stmt_clone)]
+fn clone_arms(alloc: Global, arms: &[Arm]) -> Result<Items<Arm>, Memory>
+    ensures { IfOk result (λ x. x ≡ arms.now) }
+{
+    let mut all = Items::new(alloc);
+    for i in 0..arms.len() {
+        all.push(arms[i].clone(alloc)?)?;
+    }
+    Ok(all)
+}
+
+impl Program {
+    pub fn clone(&self, alloc: Global) -> Result<Program, Memory>
+        ensures { IfOk result (λ x. x ≡ self.now) }
+    {
+        let name = self.name.clone(alloc)?;
+        let args = clone_names(alloc, self.args.as_slice())?;
+        let decls = clone_decls(alloc, self.decls.as_slice())?;
+        let body = clone_stmts(alloc, self.body.as_slice())?;
+        Ok(Program {
+            line: self.line,
+            name,
+            args,
+            decls,
+            body,
+        })
+    }
 }

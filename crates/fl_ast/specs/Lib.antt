@@ -1,0 +1,5 @@
+pub mod Tree
+pub mod AdjointTree
+pub mod Induction
+pub mod Same
+pub mod Occurs
