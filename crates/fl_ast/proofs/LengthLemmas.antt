@@ -1,5 +1,5 @@
 -- Lists of trees of two lengths are not the same.
-use Rattle.std.specs.Prelude.{◌≡◌, ℕ, suc, Bool, true, false, ◌&&◌, List, [], ◌∷◌, refl}
+use Rattle.std.specs.Prelude.{◌≡◌, suc, false, List, [], ◌∷◌, refl}
 use Rattle.std.proofs.Common.{ap, sym, length}
 use Rattle.std.proofs.lemmas.Bool.{and_right}
 use Rattle.fl_ast.specs.declared.expr.Expr.{Expr}

@@ -1,6 +1,6 @@
 -- Equality of trees: the flags of `==` at the operators, and what the tests decide.
-use Rattle.std.specs.Prelude.{◌≡◌, ℕ, Bool, true, false, ◌&&◌, ◌↔◌, List, nat_eq, bytes_eq, refl}
-use Rattle.std.proofs.Common.{ap, sym, subst}
+use Rattle.std.specs.Prelude.{◌≡◌, ℕ, true, ◌&&◌, List, nat_eq, bytes_eq, refl}
+use Rattle.std.proofs.Common.{ap, subst}
 use denote.Enum.Bare.{sameb}
 use Rattle.std.proofs.lemmas.Bool.{and_parts, and_from, eqb-true, eq-eqb}
 use Rattle.std.proofs.lemmas.Slice.Eq.{bytes_eq-Decides}
@@ -13,8 +13,8 @@ use Rattle.fl_ast.specs.declared.kind.BinOp.{BinOp}
 use Rattle.fl_ast.specs.declared.kind.BinOp.TheVariants.{Add, Sub, Mul, Div}
 use Rattle.fl_ast.specs.declared.kind.Fun.{Fun}
 use Rattle.fl_ast.specs.declared.kind.Fun.TheVariants.{Max, Min, Abs, Mod}
-use Rattle.fl_ast.specs.Tree.{Expression, literal, get, minus, binary, power, call, Expressions, no_expressions, expression, Designator}
-use Rattle.fl_ast.specs.Same.{same_kind, same_operator, same_function, same_expression, same_expressions, same_designator, SameIsEqual}
+use Rattle.fl_ast.specs.Tree.{Expression, literal, get, minus, binary, power, call, Expressions, no_expressions, expression}
+use Rattle.fl_ast.specs.Same.{same_kind, same_operator, same_function, same_expression, same_expressions, SameIsEqual}
 
 pub same_kind_flag : (a b : Kind) → sameb kind.the_type a b ≡ same_kind a b
 same_kind_flag Index Index = refl

@@ -1,4 +1,4 @@
-use Rattle.std.proofs.Common.{◌≡◌, drop, length}
+use Rattle.std.proofs.Common.{◌≡◌, drop}
 use Rattle.fl_ast.specs.Tree.{expr_trees}
 use Rattle.fl_ast.specs.Same.{same_expressions}
 use Rattle.fl_ast.proofs.+expr_same.Given as goal
