@@ -1,5 +1,5 @@
 -- Lists of subscripts.
-use Rattle.std.proofs.Common.{◌≡◌, ◌<◌, ◌≤◌, List, [], ◌∷◌, length, false, refl, arith}
+use Rattle.std.proofs.Common.{◌≡◌, ◌<◌, List, [], ◌∷◌, length, false, refl, arith}
 use Rattle.fl_ast.specs.declared.expr.Expr.{Expr}
 use Rattle.fl_ast.specs.Tree.{expr_trees}
 use Rattle.fl_types.specs.Built.{has_none}

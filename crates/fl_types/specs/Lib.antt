@@ -1,2 +1,5 @@
 pub mod Built
 pub mod Checked
+pub mod Increment
+pub mod Sharing
+pub mod Accesses

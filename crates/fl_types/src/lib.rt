@@ -1,9 +1,13 @@
 //! Typed programs, and sets and choices of their names.
 #![tactic(auto)]
 
+mod access;
 mod built;
 mod choice;
+mod sharing;
 mod typed;
 
+pub use access::{Access, AccessKind, PathStep};
 pub use choice::{Choice, Choices, Chosen, NameSet};
+pub use sharing::Sharing;
 pub use typed::{TypeError, Typed, check};
