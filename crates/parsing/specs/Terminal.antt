@@ -102,6 +102,14 @@ marked a t = if is a t then Some t.line else None
 abbrev pub by : {A : Type 0} → (Symbol → Option A) → Lexeme → Option A
 by read t = read (symbol_of t)
 
+-- whether a symbol reads as something
+abbrev pub some : {A : Type 0} → Option A → Bool
+some (Some x) = true
+some None = false
+
+abbrev pub reads : {A : Type 0} → (Symbol → Option A) → Symbol → Bool
+reads read a = some (read a)
+
 -- whether a number has this symbol
 abbrev pub numbers : Symbol → Bool
 numbers s.Number = true
