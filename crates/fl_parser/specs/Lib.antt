@@ -1,0 +1,4 @@
+pub mod ExprReading
+pub mod Nests
+pub mod Terminals
+pub mod Trees

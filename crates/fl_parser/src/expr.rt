@@ -1,0 +1,296 @@
+//! Expressions. The rules take the reader of those in brackets as a parameter, so that each is proved by itself.
+
+ghost use Rattle.std.specs.Prelude.{◌≡◌, ◌-◌, ◌+◌, ◌<◌, ◌≤◌, ◌^◌, nat_lt, IfOk, Some};
+ghost use Rattle.parsing.specs.Code.{Reads};
+ghost use Rattle.parsing.specs.Reading as reading;
+ghost use Rattle.parsing.specs.Terminal as terminal;
+ghost use Rattle.fl_parser.specs.ExprReading as spec;
+ghost use Rattle.fl_parser.specs.Terminals as terminals;
+ghost use Rattle.fl_parser.specs.Nests.{Nests};
+
+use crate::tree::{Measured, binary, literal, negation, scalar};
+use fl_ast::BinOp;
+use parsing::{Cause, Cursor, Failure, Symbol};
+use std::alloc::Global;
+
+fn is_sum_op(tokens: &Cursor<'_>) -> bool
+    ensures { result ≡ reading.sees terminals.is_sum_op tokens.now }
+{
+    matches!(tokens.ahead(), Some(Symbol::Plus | Symbol::Minus))
+}
+
+fn is_product_op(tokens: &Cursor<'_>) -> bool
+    ensures { result ≡ reading.sees terminals.is_product_op tokens.now }
+{
+    matches!(tokens.ahead(), Some(Symbol::Star | Symbol::Slash))
+}
+
+fn sum_op(tokens: &mut Cursor<'_>) -> Result<BinOp, Failure>
+    ensures { Reads (reading.token terminals.sum_op tokens.old) result tokens.new }
+{
+    match tokens.ahead() {
+        Some(Symbol::Plus) => {
+            let _sign = tokens.mark(Symbol::Plus)?;
+            Ok(BinOp::Add)
+        }
+        Some(Symbol::Minus) => {
+            let _sign = tokens.mark(Symbol::Minus)?;
+            Ok(BinOp::Sub)
+        }
+        _ => Err(tokens.refuse(Cause::Expected)),
+    }
+}
+
+fn product_op(tokens: &mut Cursor<'_>) -> Result<BinOp, Failure>
+    ensures { Reads (reading.token terminals.product_op tokens.old) result tokens.new }
+{
+    match tokens.ahead() {
+        Some(Symbol::Star) => {
+            let _sign = tokens.mark(Symbol::Star)?;
+            Ok(BinOp::Mul)
+        }
+        Some(Symbol::Slash) => {
+            let _sign = tokens.mark(Symbol::Slash)?;
+            Ok(BinOp::Div)
+        }
+        _ => Err(tokens.refuse(Cause::Expected)),
+    }
+}
+
+fn sees_name(tokens: &Cursor<'_>) -> bool
+    ensures { result ≡ reading.sees (terminal.on terminal.names) tokens.now }
+{
+    match tokens.ahead() {
+        Some(ahead) => ahead.names(),
+        None => false,
+    }
+}
+
+#[derive(Clone, Copy)]
+pub struct Rules<F> {
+    pub alloc: Global,
+    /// How many brackets may still open.
+    pub brackets: usize,
+    pub expr: F,
+}
+
+impl<F: Fn(Global, &mut Cursor<'_>, usize, usize) -> Result<Measured, Failure>> Rules<F> {
+    fn inner(&self, tokens: &mut Cursor<'_>, d: usize) -> Result<Measured, Failure>
+        requires nests { Nests self.now.brackets (F.pre self.now.expr) (F.post self.now.expr) }
+        requires few { d < 2 ^ 32 }
+        requires room { 0 < self.now.brackets }
+        ensures reads { Reads (spec.below self.now.brackets (Some d) tokens.old) result tokens.new }
+        ensures depth { IfOk result (λ x. (0 < x.depth) × (x.depth ≤ d + 1)) }
+    {
+        (self.expr)(self.alloc, tokens, self.brackets - 1, d)
+    }
+
+    #[tactic(auto, unfolding(crate::specs::ExprReading::bracketed))]
+    fn bracketed(&self, tokens: &mut Cursor<'_>, d: usize) -> Result<Measured, Failure>
+        requires nests { Nests self.now.brackets (F.pre self.now.expr) (F.post self.now.expr) }
+        requires few { d < 2 ^ 32 }
+        requires room { 0 < self.now.brackets }
+        ensures reads { Reads (spec.bracketed (nat_lt 0 self.now.brackets) (spec.below self.now.brackets) (Some d) tokens.old) result tokens.new }
+        ensures depth { IfOk result (λ x. (0 < x.depth) × (x.depth ≤ d + 1)) }
+    {
+        let _open = tokens.mark(Symbol::Open)?;
+        let e = self.inner(tokens, d)?;
+        let _close = tokens.mark(Symbol::Close)?;
+        Ok(e)
+    }
+
+    #[tactic(auto, unfolding(crate::specs::ExprReading::scalar))]
+    fn scalar(&self, tokens: &mut Cursor<'_>) -> Result<Measured, Failure>
+        ensures reads { Reads (spec.scalar (nat_lt 0 self.now.brackets) (spec.below self.now.brackets)  tokens.old) result tokens.new }
+        ensures depth { IfOk result (λ x. x.depth ≡ 1) }
+    {
+        let word = tokens.name(self.alloc)?;
+        Ok(scalar(self.alloc, word))
+    }
+
+    #[tactic(auto, unfolding(crate::specs::ExprReading::literal))]
+    fn literal(&self, tokens: &mut Cursor<'_>) -> Result<Measured, Failure>
+        ensures reads { Reads (spec.literal (nat_lt 0 self.now.brackets) (spec.below self.now.brackets)  tokens.old) result tokens.new }
+        ensures depth { IfOk result (λ x. x.depth ≡ 1) }
+    {
+        let number = tokens.number()?;
+        Ok(literal(number))
+    }
+
+    #[tactic(auto, unfolding(crate::specs::ExprReading::primary))]
+    fn primary(&self, tokens: &mut Cursor<'_>, d: usize) -> Result<Measured, Failure>
+        requires nests { Nests self.now.brackets (F.pre self.now.expr) (F.post self.now.expr) }
+        requires few { d < 2 ^ 32 }
+        ensures reads { Reads (spec.primary (nat_lt 0 self.now.brackets) (spec.below self.now.brackets) (Some d) tokens.old) result tokens.new }
+        ensures depth { IfOk result (λ x. (0 < x.depth) × (x.depth ≤ d + 1)) }
+    {
+        if tokens.sees(Symbol::Open) {
+            if self.brackets == 0 {
+                return Err(tokens.refuse(Cause::Deep));
+            }
+            return self.bracketed(tokens, d);
+        }
+        if sees_name(tokens) {
+            return self.scalar(tokens);
+        }
+        self.literal(tokens)
+    }
+
+    #[tactic(auto, unfolding(crate::specs::ExprReading::factor))]
+    fn factor(&self, tokens: &mut Cursor<'_>, d: usize) -> Result<Measured, Failure>
+        requires nests { Nests self.now.brackets (F.pre self.now.expr) (F.post self.now.expr) }
+        requires few { d < 2 ^ 32 }
+        ensures reads { Reads (spec.factor (nat_lt 0 self.now.brackets) (spec.below self.now.brackets) (Some d) tokens.old) result tokens.new }
+        ensures depth { IfOk result (λ x. (0 < x.depth) × (x.depth ≤ d + 1)) }
+    {
+        self.primary(tokens, d)
+    }
+
+    #[tactic(auto, unfolding(crate::specs::ExprReading::times_one))]
+    fn times_one(&self, tokens: &mut Cursor<'_>, d: usize, l: Measured) -> Result<Measured, Failure>
+        requires nests { Nests self.now.brackets (F.pre self.now.expr) (F.post self.now.expr) }
+        requires few { d < 2 ^ 32 }
+        requires shallow { l.depth ≤ d }
+        requires some { 0 < d }
+        ensures reads { Reads (spec.times_one (nat_lt 0 self.now.brackets) (spec.below self.now.brackets) (Some d) l tokens.old) result tokens.new }
+        ensures depth { IfOk result (λ x. (0 < x.depth) × (x.depth ≤ d + 1)) }
+    {
+        let op = product_op(tokens)?;
+        let r = self.factor(tokens, d - 1)?;
+        Ok(binary(self.alloc, op, l, r)?)
+    }
+
+    fn factors_from(&self, tokens: &mut Cursor<'_>, d: usize, mut left: Measured) -> Result<Measured, Failure>
+        requires nests { Nests self.now.brackets (F.pre self.now.expr) (F.post self.now.expr) }
+        requires few { d < 2 ^ 32 }
+        requires shallow { left.depth ≤ d + 1 }
+        requires real { 0 < left.depth }
+        ensures reads { Reads (spec.factors_from (nat_lt 0 self.now.brackets) (spec.below self.now.brackets) (Some d) left tokens.old) result tokens.new }
+        ensures depth { IfOk result (λ x. (0 < x.depth) × (x.depth ≤ d + 1)) }
+    {
+        for _turn in 0..tokens.len() {
+            if !is_product_op(tokens) {
+                return Ok(left);
+            }
+            if left.depth > d {
+                return Err(tokens.refuse(Cause::Deep));
+            }
+            left = self.times_one(tokens, d, left)?;
+        }
+        Ok(left)
+    }
+
+    #[tactic(auto, unfolding(crate::specs::ExprReading::term))]
+    fn term(&self, tokens: &mut Cursor<'_>, d: usize) -> Result<Measured, Failure>
+        requires nests { Nests self.now.brackets (F.pre self.now.expr) (F.post self.now.expr) }
+        requires few { d < 2 ^ 32 }
+        ensures reads { Reads (spec.term (nat_lt 0 self.now.brackets) (spec.below self.now.brackets) (Some d) tokens.old) result tokens.new }
+        ensures depth { IfOk result (λ x. (0 < x.depth) × (x.depth ≤ d + 1)) }
+    {
+        let first = self.factor(tokens, d)?;
+        self.factors_from(tokens, d, first)
+    }
+
+    #[tactic(auto, unfolding(crate::specs::ExprReading::plus_one))]
+    fn plus_one(&self, tokens: &mut Cursor<'_>, d: usize, l: Measured) -> Result<Measured, Failure>
+        requires nests { Nests self.now.brackets (F.pre self.now.expr) (F.post self.now.expr) }
+        requires few { d < 2 ^ 32 }
+        requires shallow { l.depth ≤ d }
+        requires some { 0 < d }
+        ensures reads { Reads (spec.plus_one (nat_lt 0 self.now.brackets) (spec.below self.now.brackets) (Some d) l tokens.old) result tokens.new }
+        ensures depth { IfOk result (λ x. (0 < x.depth) × (x.depth ≤ d + 1)) }
+    {
+        let op = sum_op(tokens)?;
+        let r = self.term(tokens, d - 1)?;
+        Ok(binary(self.alloc, op, l, r)?)
+    }
+
+    fn terms_from(&self, tokens: &mut Cursor<'_>, d: usize, mut left: Measured) -> Result<Measured, Failure>
+        requires nests { Nests self.now.brackets (F.pre self.now.expr) (F.post self.now.expr) }
+        requires few { d < 2 ^ 32 }
+        requires shallow { left.depth ≤ d + 1 }
+        requires real { 0 < left.depth }
+        ensures reads { Reads (spec.terms_from (nat_lt 0 self.now.brackets) (spec.below self.now.brackets) (Some d) left tokens.old) result tokens.new }
+        ensures depth { IfOk result (λ x. (0 < x.depth) × (x.depth ≤ d + 1)) }
+    {
+        for _turn in 0..tokens.len() {
+            if !is_sum_op(tokens) {
+                return Ok(left);
+            }
+            if left.depth > d {
+                return Err(tokens.refuse(Cause::Deep));
+            }
+            left = self.plus_one(tokens, d, left)?;
+        }
+        Ok(left)
+    }
+
+    #[tactic(auto, unfolding(crate::specs::ExprReading::negated))]
+    fn negated(&self, tokens: &mut Cursor<'_>, d: usize) -> Result<Measured, Failure>
+        requires nests { Nests self.now.brackets (F.pre self.now.expr) (F.post self.now.expr) }
+        requires few { d < 2 ^ 32 }
+        requires some { 0 < d }
+        ensures reads { Reads (spec.negated (nat_lt 0 self.now.brackets) (spec.below self.now.brackets) (Some d) tokens.old) result tokens.new }
+        ensures depth { IfOk result (λ x. (0 < x.depth) × (x.depth ≤ d + 1)) }
+    {
+        let _sign = tokens.mark(Symbol::Minus)?;
+        let e = self.term(tokens, d - 1)?;
+        let first = negation(self.alloc, e)?;
+        self.terms_from(tokens, d, first)
+    }
+
+    #[tactic(auto, unfolding(crate::specs::ExprReading::unsigned))]
+    fn unsigned(&self, tokens: &mut Cursor<'_>, d: usize) -> Result<Measured, Failure>
+        requires nests { Nests self.now.brackets (F.pre self.now.expr) (F.post self.now.expr) }
+        requires few { d < 2 ^ 32 }
+        ensures reads { Reads (spec.unsigned (nat_lt 0 self.now.brackets) (spec.below self.now.brackets) (Some d) tokens.old) result tokens.new }
+        ensures depth { IfOk result (λ x. (0 < x.depth) × (x.depth ≤ d + 1)) }
+    {
+        let first = self.term(tokens, d)?;
+        self.terms_from(tokens, d, first)
+    }
+
+    #[tactic(auto, unfolding(crate::specs::ExprReading::plain))]
+    fn plain(&self, tokens: &mut Cursor<'_>, d: usize) -> Result<Measured, Failure>
+        requires nests { Nests self.now.brackets (F.pre self.now.expr) (F.post self.now.expr) }
+        requires few { d < 2 ^ 32 }
+        ensures reads { Reads (spec.plain (nat_lt 0 self.now.brackets) (spec.below self.now.brackets) (Some d) tokens.old) result tokens.new }
+        ensures depth { IfOk result (λ x. (0 < x.depth) × (x.depth ≤ d + 1)) }
+    {
+        let _sign = tokens.mark(Symbol::Plus)?;
+        self.unsigned(tokens, d)
+    }
+
+    #[tactic(auto, unfolding(crate::specs::ExprReading::sum))]
+    fn sum(&self, tokens: &mut Cursor<'_>, d: usize) -> Result<Measured, Failure>
+        requires nests { Nests self.now.brackets (F.pre self.now.expr) (F.post self.now.expr) }
+        requires few { d < 2 ^ 32 }
+        ensures reads { Reads (spec.sum (nat_lt 0 self.now.brackets) (spec.below self.now.brackets) (Some d) tokens.old) result tokens.new }
+        ensures depth { IfOk result (λ x. (0 < x.depth) × (x.depth ≤ d + 1)) }
+    {
+        if tokens.sees(Symbol::Minus) {
+            if d == 0 {
+                return Err(tokens.refuse(Cause::Deep));
+            }
+            return self.negated(tokens, d);
+        }
+        if tokens.sees(Symbol::Plus) {
+            return self.plain(tokens, d);
+        }
+        self.unsigned(tokens, d)
+    }
+}
+
+/// An expression with so many brackets to open and so many levels beneath its root.
+pub fn expr(alloc: Global, tokens: &mut Cursor<'_>, brackets: usize, d: usize) -> Result<Measured, Failure>
+    requires { d < 2 ^ 32 }
+    ensures reads { Reads (spec.expr brackets (Some d) tokens.old) result tokens.new }
+    ensures depth { IfOk result (λ x. (0 < x.depth) × (x.depth ≤ d + 1)) }
+{
+    Rules {
+        alloc,
+        brackets,
+        expr,
+    }
+    .sum(tokens, d)
+}

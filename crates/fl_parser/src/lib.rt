@@ -1,0 +1,5 @@
+//! The parser.
+#![tactic(auto)]
+
+mod expr;
+mod tree;

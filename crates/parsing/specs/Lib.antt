@@ -1,0 +1,6 @@
+pub mod Code
+pub mod Grammar
+pub mod Limit
+pub mod Reading
+pub mod Symbol
+pub mod Terminal

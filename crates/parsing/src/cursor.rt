@@ -1,0 +1,218 @@
+ghost use Rattle.std.specs.Prelude.{◌≡◌, map, length, IfOk, IsTrue, ◌↔◌, [], ◌≤◌, bytes_eq};
+ghost use Rattle.std.specs.Str.{str_to_ascii_lowercase};
+ghost use Rattle.tokens.specs.Lexeme.{lexeme};
+ghost use Rattle.tokens.specs.Spans.{Are_spans};
+ghost use Rattle.parsing.specs.Reading as reading;
+ghost use Rattle.parsing.specs.Terminal as terminal;
+ghost use Rattle.parsing.specs.Code.{Reads};
+
+use crate::fault::{Cause, Failure, Fault};
+use crate::symbol::Symbol;
+use fl_base::{Memory, Name};
+use std::alloc::Global;
+use std::marker::Model;
+use tokens::{Token, TokenKind};
+
+/// A word and the line that it stands in.
+#[derive(Debug, Drop)]
+pub struct Word {
+    pub line: u32,
+    pub name: Name,
+}
+
+/// A number, and the `4` or `8` behind it.
+#[derive(Clone, Copy, Debug, PartialEq, Eq)]
+pub struct Number {
+    pub value: u64,
+    pub suffix: Option<u8>,
+}
+
+/// The tokens of a text that are still to be read.
+#[derive(Drop)]
+pub struct Cursor<'a> {
+    text: &'a [u8],
+    rest: &'a [Token],
+    ahead: Option<Symbol>,
+}
+
+impl<'a> Model for Cursor<'a> {
+    ghost use Rattle.std.specs.Prelude.{List, map, ◌≡◌};
+    ghost use Rattle.tokens.specs.Lexeme.{Lexeme, lexeme};
+    ghost use Rattle.tokens.specs.Spans.{Are_spans};
+    ghost use Rattle.parsing.specs.Reading.{ahead as symbol_ahead};
+
+    ghost Value = { List Lexeme };
+
+    ghost view = { λ c. map (lexeme c.text.now) c.rest.now };
+
+    ghost invariant = { λ c. Are_spans c.text.now c.rest.now × (c.ahead ≡ symbol_ahead (map (lexeme c.text.now) c.rest.now)) };
+}
+
+/// The text of a token.
+fn text_of<'a>(text: &'a [u8], token: Token) -> &'a [u8]
+    requires start { token.start ≤ token.end }
+    requires end { token.end ≤ length text.now }
+    ensures { str_to_ascii_lowercase result.now ≡ (lexeme text.now token).bytes }
+{
+    &text[token.start as usize..token.end as usize]
+}
+
+/// A name of these letters, all in lower case.
+fn lowered(alloc: Global, text: &[u8]) -> Result<Name, Memory>
+    ensures { IfOk result (λ name. name ≡ str_to_ascii_lowercase text.now) }
+{
+    Ok(Name::from_vec(text.to_ascii_lowercase(alloc)?))
+}
+
+/// Whether two texts have the same letters, in either case.
+fn is_same(text: &[u8], other: &[u8]) -> bool
+    ensures { result ≡ bytes_eq (str_to_ascii_lowercase text.now) (str_to_ascii_lowercase other.now) }
+{
+    text.eq_ignore_ascii_case(other)
+}
+
+fn is_word(kind: TokenKind) -> bool
+    ensures { result ≡ terminal.is_word_by kind }
+{
+    matches!(kind, TokenKind::Word)
+}
+
+fn first_symbol(text: &[u8], rest: &[Token]) -> Option<Symbol>
+    requires { Are_spans text.now rest.now }
+    ensures { result ≡ reading.ahead (map (lexeme text.now) rest.now) }
+{
+    match rest {
+        [] => None,
+        [token, ..] => Some(Symbol::of(token.kind, text_of(text, *token))),
+    }
+}
+
+impl<'a> Cursor<'a> {
+    pub fn new(text: &'a [u8], tokens: &'a [Token]) -> Cursor<'a>
+        requires { Are_spans text.now tokens.now }
+        ensures { result ≡ map (lexeme text.now) tokens.now }
+    {
+        Cursor {
+            text,
+            rest: tokens,
+            ahead: first_symbol(text, tokens),
+        }
+    }
+
+    /// How many tokens are left.
+    pub fn len(&self) -> usize
+        ensures { result ≡ length self.now }
+    {
+        self.rest.len()
+    }
+
+    pub fn is_empty(&self) -> bool
+        ensures { IsTrue result ↔ (self.now ≡ []) }
+    {
+        self.rest.is_empty()
+    }
+
+    /// The refusal of the next token.
+    pub fn refuse(&self, cause: Cause) -> Failure
+        ensures { result ≡ Failure.Refused (reading.fault cause self.now) }
+    {
+        Failure::Refused(Fault {
+            cause,
+            left: self.rest.len(),
+        })
+    }
+
+    /// The next token's symbol.
+    pub fn ahead(&self) -> Option<Symbol>
+        ensures { result ≡ reading.ahead self.now }
+    {
+        self.ahead
+    }
+
+    pub fn sees(&self, symbol: Symbol) -> bool
+        ensures { result ≡ reading.sees (terminal.is symbol) self.now }
+    {
+        match self.ahead {
+            Some(ahead) => symbol.is(ahead),
+            None => false,
+        }
+    }
+
+    /// Takes a token of this symbol, and gives its line.
+    pub fn mark(&mut self, symbol: Symbol) -> Result<u32, Failure>
+        ensures { Reads (reading.token (terminal.marked symbol) self.old) result self.new }
+    {
+        match self.rest {
+            [token, rest @ ..] if self.sees(symbol) => {
+                let line = token.line;
+                self.rest = rest;
+                self.ahead = first_symbol(self.text, rest);
+                Ok(line)
+            }
+            _ => Err(self.refuse(Cause::Expected)),
+        }
+    }
+
+    /// Takes a number.
+    pub fn number(&mut self) -> Result<Number, Failure>
+        ensures { Reads (reading.token terminal.number self.old) result self.new }
+    {
+        if let [token, rest @ ..] = self.rest {
+            if let TokenKind::Number { value, suffix } = token.kind {
+                self.rest = rest;
+                self.ahead = first_symbol(self.text, rest);
+                return Ok(Number { value, suffix });
+            }
+        }
+        Err(self.refuse(Cause::Expected))
+    }
+
+    /// Takes a name of a variable.
+    pub fn name(&mut self, alloc: Global) -> Result<Word, Failure>
+        ensures { Reads (reading.token terminal.name self.old) result self.new }
+    {
+        if let [token, rest @ ..] = self.rest {
+            if let Some(ahead) = self.ahead {
+                if ahead.names() {
+                    let line = token.line;
+                    let name = lowered(alloc, text_of(self.text, *token))?;
+                    self.rest = rest;
+                    self.ahead = first_symbol(self.text, rest);
+                    return Ok(Word { line, name });
+                }
+            }
+        }
+        Err(self.refuse(Cause::Expected))
+    }
+
+    /// Takes any word.
+    pub fn word(&mut self, alloc: Global) -> Result<Word, Failure>
+        ensures { Reads (reading.token terminal.word self.old) result self.new }
+    {
+        match self.rest {
+            [token, rest @ ..] if is_word(token.kind) => {
+                let line = token.line;
+                let name = lowered(alloc, text_of(self.text, *token))?;
+                self.rest = rest;
+                self.ahead = first_symbol(self.text, rest);
+                Ok(Word { line, name })
+            }
+            _ => Err(self.refuse(Cause::Expected)),
+        }
+    }
+
+    /// Takes the word that has these letters, in either case.
+    pub fn same_word(&mut self, name: &Name) -> Result<(), Failure>
+        ensures { Reads (reading.token (terminal.same_word name.now) self.old) result self.new }
+    {
+        match self.rest {
+            [token, rest @ ..]
+                if is_word(token.kind) && is_same(text_of(self.text, *token), name.bytes()) => {
+                self.rest = rest;
+                self.ahead = first_symbol(self.text, rest);
+                Ok(())
+            }
+            _ => Err(self.refuse(Cause::Expected)),
+        }
+    }
+}
