@@ -1,0 +1,3 @@
+mod Cases
+pub mod NamesRead
+pub mod WordsRead
