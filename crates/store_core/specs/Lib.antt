@@ -1,0 +1,5 @@
+pub mod Values
+pub mod Bounds
+pub mod Keys
+pub mod Places
+pub mod Texts

@@ -1,0 +1,14 @@
+//! Where values live: arguments' words, the places of a program, its stores, and the tape.
+#![tactic(auto)]
+
+mod bound;
+mod declared;
+mod layout;
+mod text;
+mod values;
+
+pub use bound::{Axis, size};
+pub use cells::Store;
+pub use declared::declaration;
+pub use layout::{Layout, LayoutError, Shape};
+pub use values::{Args, Direction, Entry, Weights};
