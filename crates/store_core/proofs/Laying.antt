@@ -9,6 +9,7 @@ use Rattle.std.specs.List.{list_any}
 use Rattle.store_core.specs.declared.bound.Axis.{Axis}
 use Rattle.store_core.specs.declared.layout.Shape.{Shape}
 use Rattle.store_core.specs.declared.layout.LayoutError.{LayoutError}
+use Rattle.store_core.specs.declared.layout.LayoutError.TheVariants.{TooManyPlaces, Memory}
 use Rattle.store_core.specs.Bounds.{IsLow}
 use Rattle.store_core.specs.Keys.{keys_of, keys_of_shape, size_of, slot_of, IsApart, HasEachOnce, IsLaidOut, laid, laid_all, Lays}
 use Rattle.store_core.proofs.Slots.{length_shape, turned, slot_missing, slot_found, same_name}
@@ -131,3 +132,21 @@ capped_more axes size i big d h lt e =
     let a : min (min (size * n) big) (2 ^ 40) ≡ min (size * n) (2 ^ 40) = omega arith in
     let b : size * n * r ≡ size * size_of (drop i axes) = omega (arith, ap (λ m. size * m) (size_more axes i d lt)) in
     ap (λ m. min (m * r) (2 ^ 40)) a ∙ capped (size * n) r (2 ^ 40) ∙ ap (λ m. min m (2 ^ 40)) b ∙ e
+
+one_grows : (n : ℕ) (es : List Shape) (s : Shape) (b : Bool) → n < length (keys_of es) → n < length (keys_of (cond b es (es ++ s ∷ [])))
+one_grows n es s true h = h
+one_grows n es s false h = let k = keys_more es s in omega arith
+
+-- later shapes take no place away
+pub laid_grows : (n : ℕ) (es ss : List Shape) → n < length (keys_of es) → n < length (keys_of (laid_all es ss))
+laid_grows n es [] h = h
+laid_grows n es (s ∷ ss) h = laid_grows n (laid es s) ss (one_grows n es s _ h)
+
+pub laid_all-append : (es ss ts : List Shape) → laid_all (laid_all es ss) ts ≡ laid_all es (ss ++ ts)
+laid_all-append es [] ts = refl
+laid_all-append es (s ∷ ss) ts = laid_all-append (laid es s) ss ts
+
+-- too many places stay too many
+pub too_many : (e : LayoutError) (es ss : List Shape) → Lays (Err e) es → Lays (Err e) (laid_all es ss)
+too_many TooManyPlaces es ss h = laid_grows (2 ^ 20) es ss h
+too_many Memory es ss h = tt

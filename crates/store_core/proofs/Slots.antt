@@ -86,6 +86,19 @@ first_next (x ∷ es) (suc i) e is =
     let b = length-append (keys_of_shape x) (keys_of (take (suc i) es)) in
     omega arith
 
+before : (es : List Shape) (i : ℕ) → length (keys_of (take i es)) ≤ length (keys_of (take (suc i) es))
+before es zero = omega arith
+before [] (suc i) = omega arith
+before (x ∷ es) (suc i) =
+    let l = before es i in
+    let a = length-append (keys_of_shape x) (keys_of (take i es)) in
+    let b = length-append (keys_of_shape x) (keys_of (take (suc i) es)) in
+    omega arith
+
+-- the places ascend
+pub first_before : (es : List Shape) (i : ℕ) → length (keys_of (take i es)) ≤ length (keys_of (take (i + 1) es))
+first_before es i = let e : i + 1 ≡ suc i = add-one i in rw e (before es i)
+
 pub first_small : (es : List Shape) (i : ℕ) → length (keys_of (take i es)) ≤ length (keys_of es)
 first_small es zero = omega arith
 first_small [] (suc i) = omega arith
@@ -204,7 +217,7 @@ kept es firsts slot e h lt is =
       place = λ ss. ap (λ o. option_and_then (λ (x : Shape). place_of es x.name ss) o) g ∙ place_slot es slot e ss g h.once ∙ ap (λ n. option_map (λ k. n + k) (offset_of e.axes ss)) (sym a);
     }
 
-any_default : {A : Type 0} (xs : List A) (i : ℕ) (d e : A) → i < length xs → get_or xs i d ≡ get_or xs i e
+pub any_default : {A : Type 0} (xs : List A) (i : ℕ) (d e : A) → i < length xs → get_or xs i d ≡ get_or xs i e
 any_default [] i d e h = absurd (omega arith)
 any_default (x ∷ xs) zero d e h = refl
 any_default (x ∷ xs) (suc i) d e h = any_default xs i d e (omega arith)

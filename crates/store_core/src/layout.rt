@@ -1,4 +1,4 @@
-ghost use Rattle.std.specs.Prelude.{◌≡◌, ◌+◌, ◌*◌, ◌<◌, ◌≤◌, ◌^◌, length, slice_get, List, [], All, IfSome, IfOk, Some, None, option_map};
+ghost use Rattle.std.specs.Prelude.{◌≡◌, ◌+◌, ◌*◌, ◌<◌, ◌≤◌, ◌^◌, length, slice_get, List, [], All, IfSome, IfOk, Some, None, option_map, take};
 ghost use Rattle.store_core.specs.Keys.{step_of, size_of, offset_of, keys_of, slot_of, place_in_slot, place_of, laid, Lays};
 ghost use Rattle.store_core.specs.Bounds.{IsLow};
 ghost use Rattle.store_core.specs.declared.layout.LayoutError.TheVariants.{Memory as memory};
@@ -169,6 +169,26 @@ impl Layout {
         ensures { result.now ≡ self.now }
     {
         self.shapes.as_slice()
+    }
+
+    /// The first place of a slot, or the number of places at the end.
+    pub fn first(&self, slot: usize) -> u32
+        requires { slot ≤ length self.now }
+        ensures value { result ≡ length (keys_of (take slot self.now)) }
+        ensures small { result ≤ 2 ^ 20 }
+    {
+        self.firsts[slot]
+    }
+
+    /// The first place after those of a slot.
+    pub fn next(&self, slot: usize) -> u32
+        requires { slot < length self.now }
+        ensures value { result ≡ length (keys_of (take (slot + 1) self.now)) }
+        ensures small { result ≤ length (keys_of self.now) }
+        ensures after { length (keys_of (take slot self.now)) ≤ result }
+    {
+        let _shape = &self.shapes.as_slice()[slot];
+        self.firsts[slot + 1]
     }
 
     /// The number of the shape of a name, for `place_in`.

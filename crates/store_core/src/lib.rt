@@ -3,7 +3,9 @@
 
 mod bound;
 mod declared;
+mod fill;
 mod layout;
+mod scope;
 mod text;
 mod values;
 
