@@ -5,3 +5,4 @@ pub mod Scopes
 pub mod Places
 pub mod Filled
 pub mod Texts
+pub mod Tapes

@@ -6,6 +6,7 @@ mod declared;
 mod fill;
 mod layout;
 mod scope;
+mod tape;
 mod text;
 mod values;
 
@@ -13,4 +14,5 @@ pub use bound::{Axis, size};
 pub use cells::Store;
 pub use declared::declaration;
 pub use layout::{Layout, LayoutError, Shape};
+pub use tape::{IterTape, IterationTapes, Tape};
 pub use values::{Args, Direction, Entry, Weights};
