@@ -11,6 +11,7 @@ use crate::layout::{Layout, LayoutError};
 use crate::scope::{any_scopes, is_among};
 use crate::values::{Args, Entry};
 use fl_ast::{Decl, Name, Program};
+use fl_types::Typed;
 use std::alloc::Global;
 
 /// The first declaration of a name.
@@ -42,14 +43,20 @@ fn local<'d>(program: &Program, decl: &'d Decl) -> Option<&'d Decl>
 impl Layout {
     /// The layout of a program: its arguments in order, and then in the order of their declarations the local scalars
     /// that are neither private nor loop variables. The scalars in bounds have the values that `args` gives them.
-    pub fn of(alloc: Global, program: &Program, args: &Args) -> Result<Layout, LayoutError>
-        ensures { Lays result (shapes_of program.now args.now.entries) }
+    pub fn of(alloc: Global, typed: &Typed, args: &Args) -> Result<Layout, LayoutError>
+        ensures { Lays result (shapes_of typed.now args.now.entries) }
     {
-        let values = args.entries.as_slice();
-        let layout = Layout::empty(alloc)?;
-        let layout = lay_args(alloc, layout, program, values)?;
-        lay_locals(alloc, layout, program, values)
+        lay(alloc, typed.program(), args)
     }
+}
+
+fn lay(alloc: Global, program: &Program, args: &Args) -> Result<Layout, LayoutError>
+    ensures { Lays result (shapes_of program.now args.now.entries) }
+{
+    let values = args.entries.as_slice();
+    let layout = Layout::empty(alloc)?;
+    let layout = lay_args(alloc, layout, program, values)?;
+    lay_locals(alloc, layout, program, values)
 }
 
 fn lay_some(

@@ -76,7 +76,12 @@ impl Layout {
     }
 
     /// The words of names among the adjoint cells.
-    pub fn adjoints_of(&self, alloc: Global, store: &Store, names: &[Name]) -> Result<Weights, Memory>
+    pub fn adjoints_of(
+        &self,
+        alloc: Global,
+        store: &Store,
+        names: &[Name],
+    ) -> Result<Weights, Memory>
         requires { length store.now ≡ 2 * length (keys_of self.now) }
         ensures { IfOk result (λ weights. weights.entries
             ≡ entries_at self.now (drop (length (keys_of self.now)) store.now) names.now) }

@@ -20,9 +20,7 @@ fn scopes(stmt: &Stmt, name: &Name) -> bool
             var,
             body,
             ..
-        } => {
-            name.is(var) || lists_private(directive, name) || any_scopes(body.as_slice(), name)
-        }
+        } => { name.is(var) || lists_private(directive, name) || any_scopes(body.as_slice(), name) }
     }
 }
 

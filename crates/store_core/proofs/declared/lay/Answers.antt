@@ -1,6 +1,6 @@
 use Rattle.std.proofs.lemmas.Result.{err_from_is_err_and}
 use Rattle.store_core.proofs.Placing.{args_over, all_laid}
-use Rattle.store_core.proofs.layout.Layout.of.Goals as goal
+use Rattle.store_core.proofs.declared.lay.Goals as goal
 
 pub returns-in_err-layout-2 : goal.returns-in_err-layout-2
 returns-in_err-layout-2 c =
