@@ -1,0 +1,251 @@
+ghost use Rattle.std.specs.Prelude.{◌≡◌, ◌+◌, ◌*◌, ◌<◌, ◌≤◌, ◌^◌, length, slice_get, List, [], All, IfSome, IfOk, Some, None, option_map, take};
+ghost use Rattle.store_core.specs.Keys.{step_of, size_of, offset_of, keys_of, slot_of, place_in_slot, place_of, laid, Lays};
+ghost use Rattle.store_core.specs.Bounds.{IsLow};
+ghost use Rattle.store_core.specs.declared.layout.LayoutError.TheVariants.{Memory as memory};
+
+use crate::bound::{Axis, size};
+use fl_ast::{Memory, Name};
+use fl_base::Items;
+use std::alloc::{AllocError, AllocFailed, Global};
+use std::marker::Model;
+
+/// A name that has places, with no axes where it is a scalar.
+#[derive(Drop)]
+pub struct Shape {
+    pub name: Name,
+    pub axes: Items<Axis>,
+}
+
+impl Axis {
+    /// How far above the lower bound a subscript is, or `None` outside the bounds.
+    fn step(&self, subscript: i64) -> Option<u32>
+        requires { self.now.extent ≤ 2 ^ 20 }
+        ensures value { result ≡ step_of self.now subscript }
+        ensures below { IfSome result (λ step. step < self.now.extent) }
+    {
+        let at = i128::from(subscript).checked_sub(self.lower)?;
+        if 0 <= at && (at as u128) < self.extent {
+            Some(at as u32)
+        } else {
+            None
+        }
+    }
+}
+
+/// The column-major position of subscripts.
+fn offset(axes: &[Axis], subscripts: &[i64]) -> Option<u32>
+    requires some { 0 < size_of axes.now }
+    requires room { size_of axes.now ≤ 2 ^ 20 }
+    ensures value { result ≡ offset_of axes.now subscripts.now }
+    ensures below { IfSome result (λ k. k < size_of axes.now) }
+{
+    if axes.len() != subscripts.len() {
+        return None;
+    }
+    let mut offset = 0;
+    let mut i = axes.len();
+    while i > 0 {
+        i -= 1;
+        let axis = axes[i];
+        match axis.step(subscripts[i]) {
+            Some(step) => offset = step + axis.extent as u32 * offset,
+            None => return None,
+        }
+    }
+    Some(offset)
+}
+
+const PLACES: u32 = 0x10_0000;
+
+/// Why there is no layout.
+#[derive(Debug, Drop)]
+pub enum LayoutError {
+    TooManyPlaces,
+    Memory,
+}
+
+impl From<Memory> for LayoutError {
+    ghost from_gives = { λ _ e. e ≡ memory };
+
+    fn from(_e: Memory) -> LayoutError {
+        LayoutError::Memory
+    }
+}
+
+impl From<AllocError> for LayoutError {
+    ghost from_gives = { λ _ e. e ≡ memory };
+
+    fn from(_e: AllocError) -> LayoutError {
+        LayoutError::Memory
+    }
+}
+
+impl<T: Drop> From<AllocFailed<T>> for LayoutError {
+    ghost from_gives = { λ _ e. e ≡ memory };
+
+    fn from(_e: AllocFailed<T>) -> LayoutError {
+        LayoutError::Memory
+    }
+}
+
+/// The places of a program: each name with its bounds, in order. A place is a position in the list of all names with
+/// their subscripts, an array's in column-major order (Fortran 2018, 9.5.3.2).
+#[derive(Drop)]
+pub struct Layout {
+    shapes: Items<Shape>,
+    firsts: Vec<u32>,
+}
+
+impl Model for Layout {
+    ghost use Rattle.std.specs.Prelude.{List};
+    ghost use Rattle.store_core.specs.declared.layout.Shape.{Shape};
+
+    ghost Value = { List Shape };
+
+    ghost use Rattle.store_core.specs.Keys.{IsLaidOut};
+
+    ghost view = { λ layout. layout.shapes };
+
+    ghost invariant = { λ layout. IsLaidOut layout.shapes layout.firsts.items };
+}
+
+impl Layout {
+    /// A layout without places.
+    pub(crate) fn empty(alloc: Global) -> Result<Layout, LayoutError>
+        ensures { Lays result [] }
+    {
+        let mut firsts = Vec::new(alloc);
+        firsts.push(0)?;
+        Ok(Layout {
+            shapes: Items::new(alloc),
+            firsts,
+        })
+    }
+
+    /// The layout with one shape more, unless a shape has its name.
+    pub(crate) fn with(self, shape: Shape) -> Result<Layout, LayoutError>
+        requires { All IsLow shape.axes }
+        ensures { Lays result (laid self shape) }
+    {
+        let count = self.count();
+        match self.slot(&shape.name) {
+            Some(_) => Ok(self),
+            None => self.with_new(count, shape),
+        }
+    }
+
+    /// The layout of `count` places with one shape more, whose name isn't there yet.
+    fn with_new(self, count: u32, shape: Shape) -> Result<Layout, LayoutError>
+        requires counted { count ≡ length (keys_of self) }
+        requires small { count ≤ 2 ^ 20 }
+        requires new { None ≡ slot_of self shape.name }
+        requires low { All IsLow shape.axes }
+        ensures { Lays result (laid self shape) }
+    {
+        let more = size(shape.axes.as_slice());
+        if more > u64::from(PLACES - count) {
+            return Err(LayoutError::TooManyPlaces);
+        }
+        let Layout {
+            mut shapes,
+            mut firsts,
+        } = self;
+        let next = count + more as u32;
+        firsts.push(next)?;
+        shapes.push(shape)?;
+        Ok(Layout { shapes, firsts })
+    }
+
+    /// The number of places.
+    pub fn count(&self) -> u32
+        ensures value { result ≡ length (keys_of self.now) }
+        ensures small { result ≤ 2 ^ 20 }
+    {
+        self.firsts[self.shapes.len()]
+    }
+
+    /// The names that have places, in order.
+    pub fn shapes(&self) -> &[Shape]
+        ensures { result.now ≡ self.now }
+    {
+        self.shapes.as_slice()
+    }
+
+    /// The first place of a slot, or the number of places at the end.
+    pub fn first(&self, slot: usize) -> u32
+        requires { slot ≤ length self.now }
+        ensures value { result ≡ length (keys_of (take slot self.now)) }
+        ensures small { result ≤ 2 ^ 20 }
+    {
+        self.firsts[slot]
+    }
+
+    /// The first place after those of a slot.
+    pub fn next(&self, slot: usize) -> u32
+        requires { slot < length self.now }
+        ensures value { result ≡ length (keys_of (take (slot + 1) self.now)) }
+        ensures small { result ≤ length (keys_of self.now) }
+        ensures after { length (keys_of (take slot self.now)) ≤ result }
+    {
+        let _shape = &self.shapes.as_slice()[slot];
+        self.firsts[slot + 1]
+    }
+
+    /// The number of the shape of a name, for `place_in`.
+    pub fn slot(&self, name: &Name) -> Option<usize>
+        ensures value { result ≡ slot_of self.now name.now }
+        ensures within { IfSome result (λ slot. slot < length self.now) }
+    {
+        slot_among(self.shapes.as_slice(), name)
+    }
+
+    /// The place of subscripts at the name of a slot.
+    pub fn place_in(&self, slot: usize, subscripts: &[i64]) -> Option<u32>
+        requires { slot < length self.now }
+        ensures { result ≡ place_in_slot self.now slot subscripts.now }
+    {
+        let shape = &self.shapes.as_slice()[slot];
+        let axes = shape.axes.as_slice();
+        place_from(self.firsts[slot], self.firsts[slot + 1], axes, subscripts)
+    }
+
+    /// The place of a name with subscripts.
+    pub fn place(&self, name: &Name, subscripts: &[i64]) -> Option<u32>
+        ensures value { result ≡ place_of self.now name.now subscripts.now }
+        ensures stands { IfSome result (λ place. slice_get (keys_of self.now) place
+            ≡ Some (name.now, subscripts.now)) }
+        ensures within { IfSome result (λ place. place < length (keys_of self.now)) }
+    {
+        match self.slot(name) {
+            Some(slot) => self.place_in(slot, subscripts),
+            None => None,
+        }
+    }
+}
+
+fn slot_among(shapes: &[Shape], name: &Name) -> Option<usize>
+    ensures value { result ≡ slot_of shapes.now name.now }
+    ensures within { IfSome result (λ slot. slot < length shapes.now) }
+{
+    for (i, shape) in shapes.iter().enumerate() {
+        if name.is(&shape.name) {
+            return Some(i);
+        }
+    }
+    None
+}
+
+/// The place of subscripts in an array whose first place is `first`.
+fn place_from(first: u32, next: u32, axes: &[Axis], subscripts: &[i64]) -> Option<u32>
+    requires long { next ≡ first + size_of axes.now }
+    requires small { next ≤ 2 ^ 20 }
+    ensures { result ≡ option_map (λ k. first + k) (offset_of axes.now subscripts.now) }
+{
+    if next == first {
+        return None;
+    }
+    match offset(axes, subscripts) {
+        Some(offset) => Some(first + offset),
+        None => None,
+    }
+}

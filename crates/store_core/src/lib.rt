@@ -1,0 +1,18 @@
+//! Where values live: arguments' words, the places of a program, its stores, and the tape.
+#![tactic(auto)]
+
+mod bound;
+mod declared;
+mod fill;
+mod layout;
+mod scope;
+mod tape;
+mod text;
+mod values;
+
+pub use bound::{Axis, size};
+pub use cells::Store;
+pub use declared::declaration;
+pub use layout::{Layout, LayoutError, Shape};
+pub use tape::{IterTape, IterationTapes, Tape};
+pub use values::{Args, Direction, Entry, Weights};
