@@ -3,29 +3,43 @@ use Rattle.std.specs.Prelude.{ℕ, ◌+◌, ◌-◌, Bool, true, false, ◌&&◌
 use Rattle.std.specs.List.{prefix_len, suffix_len, before_first}
 use Rattle.fl_lexer.specs.declared.line.LineClass.{LineClass}
 use Rattle.fl_lexer.specs.declared.line.LineClass.TheVariants.{Empty, Conditional, Statement, Directive}
+use Rattle.fl_lexer.specs.declared.line.Ending.{Ending}
+use Rattle.fl_lexer.specs.declared.line.Ending.TheVariants.{Missing, LineFeed, CrLf}
+use Rattle.fl_lexer.specs.declared.line.Line as declared
 use Rattle.fl_lexer.specs.Bytes.{is_blank, is_bang, is_line_feed, is_either, begins}
 
--- a line, and the bytes that end it: LF, CR LF, or none at the end of the text
+-- a line without its end, and how it ends
 pub record Line : Type 0 where
   pub bytes : List ℕ
-  pub ending : List ℕ
+  pub ending : Ending
 
-abbrev pub line : List ℕ → List ℕ → Line
+abbrev pub line : List ℕ → Ending → Line
 line bytes ending = record { bytes = bytes; ending = ending }
 
--- a line with one more byte before it: a CR before a lone LF ends the line with it
-abbrev pub longer : ℕ → List ℕ → List ℕ → Line
-longer b [] (e ∷ []) = if b == 13 then line [] (b ∷ e ∷ []) else line (b ∷ []) (e ∷ [])
+-- how many bytes end a line
+abbrev pub ending_len : Ending → ℕ
+ending_len Missing = 0
+ending_len LineFeed = 1
+ending_len CrLf = 2
+
+-- a line with one more byte before it: a CR right before the line feed ends the line with it
+abbrev pub longer : ℕ → List ℕ → Ending → Line
+longer b [] LineFeed = if b == 13 then line [] CrLf else line (b ∷ []) LineFeed
 longer b bytes ending = line (b ∷ bytes) ending
 
 abbrev pub ahead : ℕ → List Line → List Line
-ahead b [] = line (b ∷ []) [] ∷ []
+ahead b [] = line (b ∷ []) Missing ∷ []
 ahead b (l ∷ ls) = longer b l.bytes l.ending ∷ ls
 
 -- the lines of a text
 unfoldable pub lines : List ℕ → List Line
 lines [] = []
-lines (b ∷ bs) = if is_line_feed b then line [] (b ∷ []) ∷ lines bs else ahead b (lines bs)
+lines (b ∷ bs) = if is_line_feed b then line [] LineFeed ∷ lines bs else ahead b (lines bs)
+
+-- the line that these bytes and a line feed are
+unfoldable pub with_feed : List ℕ → Line
+with_feed [] = line [] LineFeed
+with_feed (b ∷ bs) = longer b (with_feed bs).bytes (with_feed bs).ending
 
 -- behind `!$`: a blank or tab, which begins a conditional line
 abbrev pub is_conditional : List ℕ → Bool
@@ -93,3 +107,7 @@ continues Directive Directive = true
 continues Statement Statement = true
 continues Statement Conditional = true
 continues _ _ = false
+
+-- a line of the code
+abbrev pub view : declared.Line → Line
+view l = line l.bytes.now l.ending

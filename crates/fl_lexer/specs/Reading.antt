@@ -1,6 +1,8 @@
 -- The tokens of a text, or what is refused in it.
 use Rattle.std.specs.Prelude.{◌≡◌, ◌≢◌, ℕ, zero, suc, ◌+◌, ◌-◌, Bool, true, false, ◌&&◌, ◌==◌, nat_lt, if◌then◌else◌, List, [], ◌∷◌, ◌++◌, length, take, drop, Option, Some, None, Result, Ok, Err}
 use Rattle.std.specs.List.{prefix_len}
+use Rattle.std.specs.declared.alloc.Global.{Global}
+use Rattle.std.specs.declared.vec.Vec.{Vec}
 use Rattle.tokens.specs.declared.Token.{Token}
 use Rattle.tokens.specs.declared.TokenKind.{TokenKind}
 use Rattle.tokens.specs.declared.TokenKind.TheVariants.{Sentinel, LineEnd}
@@ -15,10 +17,9 @@ use Rattle.fl_lexer.specs.declared.piece.PieceKind.TheVariants.{Blank, Lexical, 
 use Rattle.fl_lexer.specs.declared.line.LineClass.{LineClass}
 use Rattle.fl_lexer.specs.declared.line.LineClass.TheVariants.{Empty, Conditional, Statement, Directive}
 use Rattle.fl_lexer.specs.declared.line.LinePlace.{LinePlace}
-use Rattle.fl_lexer.specs.declared.line.Line as declared
 use Rattle.fl_lexer.specs.Bytes.{is_blank, begins}
 use Rattle.fl_lexer.specs.Pieces.{piece_of}
-use Rattle.fl_lexer.specs.Lines.{Line, lines, class_of, text_start, text_from, trimmed_len, goes_on, body_of, next_class, continues}
+use Rattle.fl_lexer.specs.Lines.{Line, lines, ending_len, class_of, text_start, text_from, trimmed_len, goes_on, body_of, next_class, continues}
 
 abbrev pub Tokens : Type 0
 Tokens = List Token
@@ -62,7 +63,7 @@ pieces p (suc n) at (b ∷ bs) ts = pieces p n (at + 1) bs ts
 
 -- the end of a line
 abbrev pub line_end : LinePlace → Line → Token
-line_end p l = token p (length l.bytes) (length l.ending) LineEnd
+line_end p l = token p (length l.bytes) (ending_len l.ending) LineEnd
 
 -- behind a line's text: nothing where it goes on and may, and else the line's end
 unfoldable pub ended : LinePlace → LineClass → ℕ → Line → List Line → Tokens → Reading
@@ -81,16 +82,18 @@ text p class from skipped l ls ts =
 abbrev pub joint : Bool → ℕ → Line → ℕ
 joint continued from l = if continued && begins (λ b. b == 38) (drop from l.bytes) then 1 else 0
 
--- a line of its class; a sentinel is a token but where a directive goes on
+-- a directive's line; its sentinel is a token but where a directive goes on
+unfoldable pub directive : LinePlace → Bool → ℕ → Line → List Line → Tokens → Reading
+directive p continued from l ls ts = text p Directive (from + 5) 0 l ls (if continued then ts else ts ++ token p from 5 Sentinel ∷ [])
+
+-- a line of its class
 unfoldable pub of_class : LinePlace → Bool → LineClass → Line → List Line → Tokens → Reading
 of_class p continued Empty l ls ts = Ok ts
 of_class p continued Conditional l ls ts = bad_byte p (prefix_len is_blank l.bytes)
 of_class p continued Statement l ls ts =
     let from = prefix_len is_blank l.bytes in
     text p Statement from (joint continued from l) l ls ts
-of_class p continued Directive l ls ts =
-    let from = prefix_len is_blank l.bytes in
-    text p Directive (from + 5) 0 l ls (if continued then ts else ts ++ token p from 5 Sentinel ∷ [])
+of_class p continued Directive l ls ts = directive p continued (prefix_len is_blank l.bytes) l ls ts
 
 -- the limit on a line's bytes: one more is refused where nothing before it is
 abbrev pub sooner : LinePlace → Reading → Reading
@@ -110,7 +113,7 @@ leaves_open continued Conditional bytes = false
 leaves_open continued class bytes = goes_on (text_from (text_start class bytes) bytes)
 
 abbrev pub after : LinePlace → Line → LinePlace
-after p l = record { line = p.line + 1; start = p.start + length l.bytes + length l.ending }
+after p l = record { line = p.line + 1; start = p.start + length l.bytes + ending_len l.ending }
 
 unfoldable pub all_lines : LinePlace → Bool → List Line → Tokens → Reading
 all_lines p continued [] ts = Ok ts
@@ -136,6 +139,6 @@ abbrev pub Reads : {A : Type 0} → Reading → Result A Halt → Tokens → Typ
 Reads reading (Ok x) new = reading ≡ Ok new
 Reads reading (Err h) new = Fails reading h
 
--- a line of the code
-abbrev pub view : declared.Line → Line
-view l = record { bytes = l.bytes.now; ending = l.ending.now }
+abbrev pub Gives : Reading → Result (Vec Token Global) Halt → Type 0
+Gives reading (Ok v) = reading ≡ Ok v.items
+Gives reading (Err h) = Fails reading h

@@ -1,6 +1,6 @@
 //! Classes of bytes, and how far each goes.
 
-ghost use Rattle.std.specs.Prelude.{◌≡◌, length, not, ◌==◌, codes};
+ghost use Rattle.std.specs.Prelude.{◌≡◌, ◌≤◌, length, not, ◌==◌, codes};
 ghost use Rattle.std.specs.List.{prefix_len, position_or_len, suffix_len};
 ghost use Rattle.fl_lexer.specs.Bytes as spec;
 
@@ -54,14 +54,16 @@ pub fn is_either(byte: u8, letter: u8) -> bool
 
 /// How many blanks stand first.
 pub fn blanks(bytes: &[u8]) -> usize
-    ensures { result ≡ prefix_len spec.is_blank bytes.now }
+    ensures value { result ≡ prefix_len spec.is_blank bytes.now }
+    ensures within { result ≤ length bytes.now }
 {
     bytes.iter().take_while(|byte| is_blank(**byte)).count()
 }
 
 /// How many blanks stand last.
 pub fn blanks_behind(bytes: &[u8]) -> usize
-    ensures { result ≡ suffix_len spec.is_blank bytes.now }
+    ensures value { result ≡ suffix_len spec.is_blank bytes.now }
+    ensures within { result ≤ length bytes.now }
 {
     bytes
         .iter()
@@ -72,13 +74,15 @@ pub fn blanks_behind(bytes: &[u8]) -> usize
 
 /// How many letters, digits and underscores stand first.
 pub fn word(bytes: &[u8]) -> usize
-    ensures { result ≡ prefix_len spec.is_word bytes.now }
+    ensures value { result ≡ prefix_len spec.is_word bytes.now }
+    ensures within { result ≤ length bytes.now }
 {
     bytes.iter().take_while(|byte| is_word(**byte)).count()
 }
 
 pub fn letters(bytes: &[u8]) -> usize
-    ensures { result ≡ prefix_len spec.is_letter bytes.now }
+    ensures value { result ≡ prefix_len spec.is_letter bytes.now }
+    ensures within { result ≤ length bytes.now }
 {
     bytes
         .iter()
@@ -87,7 +91,8 @@ pub fn letters(bytes: &[u8]) -> usize
 }
 
 pub fn digits(bytes: &[u8]) -> usize
-    ensures { result ≡ prefix_len spec.is_digit bytes.now }
+    ensures value { result ≡ prefix_len spec.is_digit bytes.now }
+    ensures within { result ≤ length bytes.now }
 {
     bytes
         .iter()
@@ -97,14 +102,16 @@ pub fn digits(bytes: &[u8]) -> usize
 
 /// How many bytes stand before the first `!`.
 pub fn before_comment(bytes: &[u8]) -> usize
-    ensures { result ≡ position_or_len spec.is_bang bytes.now }
+    ensures value { result ≡ position_or_len spec.is_bang bytes.now }
+    ensures within { result ≤ length bytes.now }
 {
     bytes.iter().take_while(|byte| **byte != b'!').count()
 }
 
 /// How many bytes stand before the first line feed.
 pub fn before_line_feed(bytes: &[u8]) -> usize
-    ensures { result ≡ position_or_len spec.is_line_feed bytes.now }
+    ensures value { result ≡ position_or_len spec.is_line_feed bytes.now }
+    ensures within { result ≤ length bytes.now }
 {
     bytes.iter().take_while(|byte| **byte != b'\n').count()
 }

@@ -1,11 +1,14 @@
 //! Reading a text, line by line and piece by piece.
 
-ghost use Rattle.std.specs.Prelude.{◌≡◌, ◌<◌, ◌≤◌, ◌+◌, ◌-◌, ◌^◌, [], ◌∷◌, ◌++◌, length, drop};
+ghost use Rattle.std.specs.Prelude.{◌≡◌, ◌==◌, ◌&&◌, if◌then◌else◌, ◌<◌, ◌≤◌, ◌+◌, ◌-◌, ◌^◌, [], ◌∷◌, ◌++◌, length, drop, false};
 ghost use Rattle.fl_base.specs.Finds.{Finds};
 ghost use Rattle.fl_lexer.specs.Reading as spec;
-ghost use Rattle.fl_lexer.specs.Reading.{Reads};
-ghost use Rattle.fl_lexer.specs.Lines.{lines, text_from};
+ghost use Rattle.fl_lexer.specs.Reading.{Reads, Gives};
+ghost use Rattle.fl_lexer.specs.Bytes.{is_blank, begins};
+ghost use Rattle.std.specs.List.{prefix_len};
+ghost use Rattle.fl_lexer.specs.Lines.{lines, view, ending_len, class_of};
 
+use crate::bytes;
 use crate::error::{Halt, LexError, Refusal};
 use crate::line::{self, Line, LineClass, LinePlace};
 use crate::piece::{self, Piece, PieceKind};
@@ -91,6 +94,7 @@ fn pieces(
 }
 
 /// Adds the end of a line whose text doesn't go on.
+#[tactic(auto, unfolding(crate::specs::Reading::ended))]
 fn ended(
     tokens: &mut Vec<Token>,
     place: LinePlace,
@@ -99,9 +103,9 @@ fn ended(
     line: &Line<'_>,
     behind: &[u8],
 ) -> Result<(), Halt>
-    requires room { place.start + length line.now.bytes.now + length line.now.ending.now < u32.MAX }
+    requires room { place.start + length line.now.bytes.now + ending_len line.now.ending < u32.MAX }
     requires within { from ≤ length line.now.bytes.now }
-    ensures { Reads (spec.ended place class from (spec.view line.now) (lines behind.now) tokens.old.items) result tokens.new.items }
+    ensures { Reads (spec.ended place class from (view line.now) (lines behind.now) tokens.old.items) result tokens.new.items }
 {
     let text = line::text_from(line.bytes, from);
     if line::goes_on(text) {
@@ -123,6 +127,7 @@ fn ended(
 }
 
 /// Adds the tokens of a line's text from a byte on, and what is behind it.
+#[tactic(auto, unfolding(crate::specs::Reading::text))]
 fn text(
     tokens: &mut Vec<Token>,
     place: LinePlace,
@@ -132,23 +137,28 @@ fn text(
     line: &Line<'_>,
     behind: &[u8],
 ) -> Result<(), Halt>
-    requires room { place.start + length line.now.bytes.now + length line.now.ending.now < u32.MAX }
+    requires room { place.start + length line.now.bytes.now + ending_len line.now.ending < u32.MAX }
     requires within { from ≤ length line.now.bytes.now }
     requires few { skipped ≤ 1 }
-    ensures { Reads (spec.text place class from skipped (spec.view line.now) (lines behind.now) tokens.old.items) result tokens.new.items }
+    ensures { Reads (spec.text place class from skipped (view line.now) (lines behind.now) tokens.old.items) result tokens.new.items }
 {
     let body = line::body_of(line::text_from(line.bytes, from));
     pieces(tokens, place, skipped, from, body)?;
     ended(tokens, place, class, from, line, behind)
 }
 
-fn joint(continued: bool, text: &[u8]) -> usize {
+/// How many bytes of a continuing line's text don't count: the `&` that it begins with.
+fn joint(continued: bool, text: &[u8]) -> usize
+    ensures { result ≡ (if continued && begins (λ b. b == 38) text.now then 1 else 0) }
+{
     match text {
         [b'&', ..] if continued => 1,
         _ => 0,
     }
 }
 
+/// Adds the tokens of a directive's line. Its sentinel is one but where a directive goes on.
+#[tactic(auto, unfolding(crate::specs::Reading::directive))]
 fn directive(
     tokens: &mut Vec<Token>,
     place: LinePlace,
@@ -156,7 +166,11 @@ fn directive(
     from: usize,
     line: &Line<'_>,
     behind: &[u8],
-) -> Result<(), Halt> {
+) -> Result<(), Halt>
+    requires room { place.start + length line.now.bytes.now + ending_len line.now.ending < u32.MAX }
+    requires sentinel { from + 5 ≤ length line.now.bytes.now }
+    ensures { Reads (spec.directive place continued from (view line.now) (lines behind.now) tokens.old.items) result tokens.new.items }
+{
     if !continued {
         tokens.push(token(place, from, line::SENTINEL_LEN, TokenKind::Sentinel))?;
     }
@@ -171,6 +185,8 @@ fn directive(
     )
 }
 
+/// Adds the tokens of a line of this class.
+#[tactic(auto, unfolding(crate::specs::Reading::of_class))]
 fn of_class(
     tokens: &mut Vec<Token>,
     place: LinePlace,
@@ -178,8 +194,12 @@ fn of_class(
     class: LineClass,
     line: &Line<'_>,
     behind: &[u8],
-) -> Result<(), Halt> {
-    let from = crate::bytes::blanks(line.bytes);
+) -> Result<(), Halt>
+    requires room { place.start + length line.now.bytes.now + ending_len line.now.ending < u32.MAX }
+    requires sentinel { class ≡ LineClass.Directive → prefix_len is_blank line.now.bytes.now + 5 ≤ length line.now.bytes.now }
+    ensures { Reads (spec.of_class place continued class (view line.now) (lines behind.now) tokens.old.items) result tokens.new.items }
+{
+    let from = bytes::blanks(line.bytes);
     match class {
         LineClass::Empty => Ok(()),
         LineClass::Conditional => Err(bad_byte(place, from)),
@@ -192,17 +212,22 @@ fn of_class(
 }
 
 /// The limit on a line's bytes: one more is refused where nothing before it is.
-fn sooner(place: LinePlace, outcome: Result<(), Halt>) -> Result<(), Halt> {
+fn sooner(place: LinePlace, outcome: Result<(), Halt>) -> Result<(), Halt>
+    requires { place.start + 1024 < u32.MAX }
+    ensures { (reading : spec.Reading) (ts : spec.Tokens) → Reads reading outcome ts → Reads (spec.sooner place reading) result ts }
+{
     let line = place.line;
     match outcome {
         Err(Halt::Memory) => Err(Halt::Memory),
-        Err(Halt::Refused(refusal)) if refusal.at < place.start + LINE_LIMIT => Err(Halt::Refused(
-            refusal,
-        )),
+        Err(Halt::Refused(refusal)) if refusal.at < place.start + LINE_LIMIT => {
+            Err(Halt::Refused(refusal))
+        }
         _ => Err(refused(place, LINE_LIMIT, LexError::LongLine { line })),
     }
 }
 
+/// Adds the tokens of a line.
+#[tactic(auto, unfolding(crate::specs::Reading::one_line, crate::specs::Reading::within_limit))]
 fn one_line(
     tokens: &mut Vec<Token>,
     place: LinePlace,
@@ -210,7 +235,12 @@ fn one_line(
     class: LineClass,
     line: &Line<'_>,
     behind: &[u8],
-) -> Result<(), Halt> {
+) -> Result<(), Halt>
+    requires room { place.start + length line.now.bytes.now + ending_len line.now.ending < u32.MAX }
+    requires is { class ≡ class_of line.now.bytes.now }
+    requires sentinel { class ≡ LineClass.Directive → prefix_len is_blank line.now.bytes.now + 5 ≤ length line.now.bytes.now }
+    ensures { Reads (spec.one_line place continued (view line.now) (lines behind.now) tokens.old.items) result tokens.new.items }
+{
     let outcome = of_class(tokens, place, continued, class, line, behind);
     if line.bytes.len() > LINE_LIMIT {
         sooner(place, outcome)
@@ -220,29 +250,36 @@ fn one_line(
 }
 
 /// Whether the next line that has text continues the line.
-fn leaves_open(continued: bool, class: LineClass, line: &[u8]) -> bool {
+fn leaves_open(continued: bool, class: LineClass, line: &[u8]) -> bool
+    requires { class ≡ LineClass.Directive → prefix_len is_blank line.now + 5 ≤ length line.now }
+    ensures { result ≡ spec.leaves_open continued class line.now }
+{
+    let blanks = bytes::blanks(line);
     match class {
         LineClass::Empty => continued,
         LineClass::Conditional => false,
-        LineClass::Statement => {
-            let from = crate::bytes::blanks(line);
-            line::goes_on(line::text_from(line, from))
-        }
+        LineClass::Statement => line::goes_on(line::text_from(line, blanks)),
         LineClass::Directive => {
-            let from = crate::bytes::blanks(line) + line::SENTINEL_LEN;
-            line::goes_on(line::text_from(line, from))
+            line::goes_on(line::text_from(line, blanks + line::SENTINEL_LEN))
         }
     }
 }
 
-fn after(place: LinePlace, line: &Line<'_>) -> LinePlace {
+fn after(place: LinePlace, line: &Line<'_>) -> LinePlace
+    requires count { place.line < u32.MAX }
+    requires room { place.start + length line.now.bytes.now + ending_len line.now.ending < u32.MAX }
+    ensures { result ≡ spec.after place (view line.now) }
+{
     LinePlace {
         line: place.line + 1,
         start: place.start + line.bytes.len() + line.ending.len(),
     }
 }
 
-fn all_lines(alloc: Global, text: &[u8]) -> Result<Vec<Token>, Halt> {
+fn all_lines(alloc: Global, text: &[u8]) -> Result<Vec<Token>, Halt>
+    requires { length text.now < u32.MAX }
+    ensures { Gives (spec.all_lines spec.first_place false (lines text.now) []) result }
+{
     let mut tokens = Vec::new(alloc);
     let mut place = LinePlace { line: 1, start: 0 };
     let mut continued = false;
@@ -259,8 +296,10 @@ fn all_lines(alloc: Global, text: &[u8]) -> Result<Vec<Token>, Halt> {
 }
 
 /// The tokens of a text, or the first place at which it is refused.
+#[tactic(auto, unfolding(crate::specs::Reading::lexed))]
 pub fn lex(alloc: Global, text: &[u8]) -> Result<Vec<Token>, LexError>
     requires { length text.now < u32.MAX }
+    ensures exact { Finds (λ v. v.items) LexError.Memory (spec.lexed text.now) result }
 {
     match all_lines(alloc, text) {
         Ok(tokens) => Ok(tokens),
