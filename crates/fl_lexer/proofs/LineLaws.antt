@@ -36,7 +36,7 @@ is_feed : (b : ℕ) → is_line_feed b ≡ true → b ≡ 10
 is_feed b h = grind (arith)
 
 cut_by : (t : Bool) (b : ℕ) (bs : List ℕ) → is_line_feed b ≡ t → (feed_at bs < length bs → bs ≡ take (feed_at bs) bs ++ 10 ∷ drop (suc (feed_at bs)) bs) →
-  feed_at (b ∷ bs) < length (b ∷ bs) → b ∷ bs ≡ take (feed_at (b ∷ bs)) (b ∷ bs) ++ 10 ∷ drop (suc (feed_at (b ∷ bs))) (b ∷ bs)
+    feed_at (b ∷ bs) < length (b ∷ bs) → b ∷ bs ≡ take (feed_at (b ∷ bs)) (b ∷ bs) ++ 10 ∷ drop (suc (feed_at (b ∷ bs))) (b ∷ bs)
 cut_by true b bs h rec l = subst (λ (k : ℕ). b ∷ bs ≡ take k (b ∷ bs) ++ 10 ∷ drop (suc k) (b ∷ bs)) (sym (at_feed b bs h)) (ap (λ c. c ∷ bs) (is_feed b h))
 cut_by false b bs h rec l =
     let e = past b bs h in

@@ -27,7 +27,7 @@ before_one n h = omega arith
 
 -- a piece was read: the rest is read behind it
 pub pieces-ok : (p : LinePlace) (at : ℕ) (bs : List ℕ) (ts us : Tokens) (x : Piece) → 0 < length bs → x ≡ piece_of bs →
-  with_piece p at ts x.len x.kind ≡ Ok us → pieces p 0 at bs ts ≡ pieces p 0 (at + x.len) (drop x.len bs) us
+    with_piece p at ts x.len x.kind ≡ Ok us → pieces p 0 at bs ts ≡ pieces p 0 (at + x.len) (drop x.len bs) us
 unfolding pieces
 pieces-ok p at [] ts us x some is h = absurd (omega arith)
 pieces-ok p at (b ∷ bs) ts us x some is h =
@@ -43,7 +43,7 @@ pieces-ok p at (b ∷ bs) ts us x some is h =
 
 -- a piece was refused
 pub pieces-err : (p : LinePlace) (at : ℕ) (bs : List ℕ) (ts : Tokens) (x : Piece) (e : Refusal) → 0 < length bs → x ≡ piece_of bs →
-  with_piece p at ts x.len x.kind ≡ Err e → pieces p 0 at bs ts ≡ Err e
+    with_piece p at ts x.len x.kind ≡ Err e → pieces p 0 at bs ts ≡ Err e
 unfolding pieces
 pieces-err p at [] ts x e some is h = absurd (omega arith)
 pieces-err p at (b ∷ bs) ts x e some is h =
@@ -59,12 +59,12 @@ pieces-end p at (b ∷ bs) ts h = absurd (omega arith)
 
 -- a line was read, and the rest is
 pub all_lines-ok : (p : LinePlace) (c : Bool) (l : Line) (ls : List Line) (ts us : Tokens) → one_line p c l ls ts ≡ Ok us →
-  all_lines p c (l ∷ ls) ts ≡ all_lines (after p l) (leaves_open c (class_of l.bytes) l.bytes) ls us
+    all_lines p c (l ∷ ls) ts ≡ all_lines (after p l) (leaves_open c (class_of l.bytes) l.bytes) ls us
 unfolding all_lines
 all_lines-ok p c l ls ts us h = ap (λ r. r >>= all_lines (after p l) (leaves_open c (class_of l.bytes) l.bytes) ls) h
 
 pub all_lines-err : (p : LinePlace) (c : Bool) (l : Line) (ls : List Line) (ts : Tokens) (e : Refusal) → one_line p c l ls ts ≡ Err e →
-  all_lines p c (l ∷ ls) ts ≡ Err e
+    all_lines p c (l ∷ ls) ts ≡ Err e
 unfolding all_lines
 all_lines-err p c l ls ts e h = ap (λ r. r >>= all_lines (after p l) (leaves_open c (class_of l.bytes) l.bytes) ls) h
 
@@ -120,7 +120,7 @@ piece_fits bs at x lt h =
 
 -- one turn over the pieces of bytes
 pub pieces-turn : (p : LinePlace) (from at : ℕ) (bs : List ℕ) (ts us : Tokens) (x : Piece) → at < length bs → x ≡ piece_of (take (length bs - at) (drop at bs)) →
-  with_piece p (from + at) ts x.len x.kind ≡ Ok us → pieces p 0 (from + (at + x.len)) (drop (at + x.len) bs) us ≡ pieces p 0 (from + at) (drop at bs) ts
+    with_piece p (from + at) ts x.len x.kind ≡ Ok us → pieces p 0 (from + (at + x.len)) (drop (at + x.len) bs) us ≡ pieces p 0 (from + at) (drop at bs) ts
 pieces-turn p from at bs ts us x lt is h =
     let e : from + (at + x.len) ≡ from + at + x.len = omega arith in
     ap (λ m. pieces p 0 m (drop (at + x.len) bs) us) e

@@ -14,8 +14,8 @@ returns-in_err-one_line c =
     let l = view c.first_line.result.0 in
     let ls = lines c.first_line.result.1.now in
     rw (p.1, p.2) (fails_too (spec.one_line place continued l ls ts) _ _
-        (λ e h. sym c.loop-rest.invariant.told ∙ ap (λ all. spec.all_lines place continued all ts) c.first_line.ensures.lines ∙ all_lines-err place continued l ls ts e h)
-        c.in_err-one_line.ensures)
+    (λ e h. sym c.loop-rest.invariant.told ∙ ap (λ all. spec.all_lines place continued all ts) c.first_line.ensures.lines ∙ all_lines-err place continued l ls ts e h)
+    c.in_err-one_line.ensures)
 
 pub loop-rest-preserved : goal.loop-rest-preserved
 loop-rest-preserved c =
@@ -27,11 +27,11 @@ loop-rest-preserved c =
     let ls = lines c.first_line.result.1.now in
     record {
       told =
-        ap (λ q. spec.all_lines q c.leaves_open-continued.result ls us) c.after-place.ensures
-        ∙ ap (λ o. spec.all_lines (spec.after place l) o ls us) (c.leaves_open-continued.ensures ∙ ap (λ k. spec.leaves_open continued k l.bytes) c.class_of-class.ensures.value)
-        ∙ sym (all_lines-ok place continued l ls ts us c.in_ok-one_line.ensures)
-        ∙ ap (λ all. spec.all_lines place continued all ts) (sym c.first_line.ensures.lines)
-        ∙ c.loop-rest.invariant.told;
+          ap (λ q. spec.all_lines q c.leaves_open-continued.result ls us) c.after-place.ensures
+          ∙ ap (λ o. spec.all_lines (spec.after place l) o ls us) (c.leaves_open-continued.ensures ∙ ap (λ k. spec.leaves_open continued k l.bytes) c.class_of-class.ensures.value)
+          ∙ sym (all_lines-ok place continued l ls ts us c.in_ok-one_line.ensures)
+          ∙ ap (λ all. spec.all_lines place continued all ts) (sym c.first_line.ensures.lines)
+          ∙ c.loop-rest.invariant.told;
       length = omega (arith, c.first_line.ensures.len, c.loop-rest.invariant.length, ap (λ q. q.start) c.after-place.ensures);
       count = omega (arith, c.loop-rest.invariant.count, ap (λ q. q.start) c.after-place.ensures, ap (λ q. q.line) c.after-place.ensures, c.first_line.ensures.shorter, c.first_line.ensures.len);
     }

@@ -19,9 +19,9 @@ returns-in_err-with_piece c =
     let at = c.loop-at.at in
     let x = c.first_piece-piece.result in
     rw (p.1, p.2) (fails_too (spec.with_piece c.args.place (c.args.from + at) c.loop-at.tokens.items x.len x.kind) _ _
-        (λ e h. sym c.loop-at.invariant
-            ∙ pieces-err c.args.place (c.args.from + at) (drop at bs) c.loop-at.tokens.items x e (some_left bs at c.loop-at-test.true) (piece_is bs at x c.first_piece-piece.ensures) h)
-        c.in_err-with_piece.ensures)
+    (λ e h. sym c.loop-at.invariant
+    ∙ pieces-err c.args.place (c.args.from + at) (drop at bs) c.loop-at.tokens.items x e (some_left bs at c.loop-at-test.true) (piece_is bs at x c.first_piece-piece.ensures) h)
+    c.in_err-with_piece.ensures)
 
 pub overflow_add-at : goal.overflow_add-at
 overflow_add-at c =
@@ -36,7 +36,7 @@ loop-at-smaller c =
 pub loop-at-preserved : goal.loop-at-preserved
 loop-at-preserved c =
     pieces-turn c.args.place c.args.from c.loop-at.at c.args.bytes.now c.loop-at.tokens.items c.with_piece.new.tokens.items c.first_piece-piece.result
-        c.loop-at-test.true c.first_piece-piece.ensures c.in_ok-with_piece.ensures
+    c.loop-at-test.true c.first_piece-piece.ensures c.in_ok-with_piece.ensures
     ∙ c.loop-at.invariant
 
 pub returns : goal.returns
