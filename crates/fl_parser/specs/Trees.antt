@@ -1,14 +1,34 @@
--- Trees of expressions with their depths.
-use Rattle.std.specs.Prelude.{ℕ, ◌+◌, ◌==◌, max, cond, List, [], Option, Some, None}
+-- The trees that are read.
+use Rattle.std.specs.Prelude.{ℕ, ◌+◌, ◌==◌, max, cond, false, List, [], ◌∷◌, ◌++◌, Option, Some, None}
 use Rattle.fl_ast.specs.declared.kind.Kind.{Kind}
 use Rattle.fl_ast.specs.declared.kind.Kind.TheVariants.{Index, Ring}
 use Rattle.fl_ast.specs.declared.kind.BinOp.{BinOp}
+use Rattle.fl_ast.specs.declared.kind.Intent.{Intent}
+use Rattle.fl_ast.specs.declared.decl.Decl.{Decl}
+use Rattle.fl_ast.specs.declared.stmt.Stmt.{Stmt}
+use Rattle.fl_ast.specs.declared.stmt.Stmt.TheVariants.{Assign}
+use Rattle.fl_ast.specs.declared.stmt.Program.{Program}
 use Rattle.fl_ast.specs.declared.expr.Place.{Place}
 use Rattle.fl_ast.specs.declared.expr.Expr.{Expr}
 use Rattle.fl_ast.specs.declared.expr.Expr.TheVariants.{Lit, Get, Neg, Bin}
 use Rattle.parsing.specs.declared.cursor.Word.{Word}
 use Rattle.parsing.specs.declared.cursor.Number.{Number}
+use Rattle.parsing.specs.Limit.{Limit}
 use Rattle.fl_parser.specs.declared.tree.Measured.{Measured}
+use Rattle.fl_parser.specs.declared.stmt.Counted.{Counted}
+
+-- How much is read: brackets that may be open at once, levels of a tree beneath its root, statements, names that are declared.
+pub record Limits : Type 0 where
+  pub brackets : ℕ
+  pub beneath : Limit
+  pub statements : Limit
+  pub names : Limit
+
+-- what the tool reads
+abbrev pub the_limits : Limits
+the_limits = record { brackets = 256; beneath = Some 63; statements = Some 4096; names = Some 512 }
+
+-- ---- expressions with their depths
 
 -- the kind that the suffix of a number gives it
 abbrev pub kind_of : Option ℕ → Kind
@@ -30,3 +50,19 @@ negation e = record { expr = Neg e.expr; depth = e.depth + 1 }
 
 abbrev pub binary : BinOp → Measured → Measured → Measured
 binary op l r = record { expr = Bin op l.expr r.expr; depth = max l.depth r.depth + 1 }
+
+-- ---- declarations, statements and the unit
+
+-- one more scalar
+abbrev pub declared : List Decl → ℕ → Kind → Intent → Word → List Decl
+declared ds line k i x = ds ++ (record { line = line; name = x.name; kind = k; intent = i; dims = [] }) ∷ []
+
+abbrev pub no_stmts : Counted
+no_stmts = record { stmts = []; count = 0 }
+
+-- one more assignment to a scalar
+abbrev pub assigned : Counted → Word → Measured → Counted
+assigned c x e = record { stmts = c.stmts ++ Assign x.line false (place_of x.name) e.expr ∷ []; count = c.count + 1 }
+
+abbrev pub program : ℕ → Word → List (List ℕ) → List Decl → Counted → Program
+program line x args ds body = record { line = line; name = x.name; args = args; decls = ds; body = body.stmts }

@@ -101,7 +101,7 @@ impl<F: Fn(Global, &mut Cursor<'_>, usize, usize) -> Result<Measured, Failure>> 
 
     #[tactic(auto, unfolding(crate::specs::ExprReading::scalar))]
     fn scalar(&self, tokens: &mut Cursor<'_>) -> Result<Measured, Failure>
-        ensures reads { Reads (spec.scalar (nat_lt 0 self.now.brackets) (spec.below self.now.brackets)  tokens.old) result tokens.new }
+        ensures reads { Reads (spec.scalar (nat_lt 0 self.now.brackets) (spec.below self.now.brackets) tokens.old) result tokens.new }
         ensures depth { IfOk result (λ x. x.depth ≡ 1) }
     {
         let word = tokens.name(self.alloc)?;
@@ -110,7 +110,7 @@ impl<F: Fn(Global, &mut Cursor<'_>, usize, usize) -> Result<Measured, Failure>> 
 
     #[tactic(auto, unfolding(crate::specs::ExprReading::literal))]
     fn literal(&self, tokens: &mut Cursor<'_>) -> Result<Measured, Failure>
-        ensures reads { Reads (spec.literal (nat_lt 0 self.now.brackets) (spec.below self.now.brackets)  tokens.old) result tokens.new }
+        ensures reads { Reads (spec.literal (nat_lt 0 self.now.brackets) (spec.below self.now.brackets) tokens.old) result tokens.new }
         ensures depth { IfOk result (λ x. x.depth ≡ 1) }
     {
         let number = tokens.number()?;
@@ -160,7 +160,12 @@ impl<F: Fn(Global, &mut Cursor<'_>, usize, usize) -> Result<Measured, Failure>> 
         Ok(binary(self.alloc, op, l, r)?)
     }
 
-    fn factors_from(&self, tokens: &mut Cursor<'_>, d: usize, mut left: Measured) -> Result<Measured, Failure>
+    fn factors_from(
+        &self,
+        tokens: &mut Cursor<'_>,
+        d: usize,
+        mut left: Measured,
+    ) -> Result<Measured, Failure>
         requires nests { Nests self.now.brackets (F.pre self.now.expr) (F.post self.now.expr) }
         requires few { d < 2 ^ 32 }
         requires shallow { left.depth ≤ d + 1 }
@@ -205,7 +210,12 @@ impl<F: Fn(Global, &mut Cursor<'_>, usize, usize) -> Result<Measured, Failure>> 
         Ok(binary(self.alloc, op, l, r)?)
     }
 
-    fn terms_from(&self, tokens: &mut Cursor<'_>, d: usize, mut left: Measured) -> Result<Measured, Failure>
+    fn terms_from(
+        &self,
+        tokens: &mut Cursor<'_>,
+        d: usize,
+        mut left: Measured,
+    ) -> Result<Measured, Failure>
         requires nests { Nests self.now.brackets (F.pre self.now.expr) (F.post self.now.expr) }
         requires few { d < 2 ^ 32 }
         requires shallow { left.depth ≤ d + 1 }
@@ -282,7 +292,12 @@ impl<F: Fn(Global, &mut Cursor<'_>, usize, usize) -> Result<Measured, Failure>> 
 }
 
 /// An expression with so many brackets to open and so many levels beneath its root.
-pub fn expr(alloc: Global, tokens: &mut Cursor<'_>, brackets: usize, d: usize) -> Result<Measured, Failure>
+pub fn expr(
+    alloc: Global,
+    tokens: &mut Cursor<'_>,
+    brackets: usize,
+    d: usize,
+) -> Result<Measured, Failure>
     requires { d < 2 ^ 32 }
     ensures reads { Reads (spec.expr brackets (Some d) tokens.old) result tokens.new }
     ensures depth { IfOk result (λ x. (0 < x.depth) × (x.depth ≤ d + 1)) }

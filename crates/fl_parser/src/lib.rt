@@ -1,5 +1,14 @@
-//! The parser.
+//! The parser: from tokens to the tree of a program.
 #![tactic(auto)]
 
+mod decl;
+mod error;
 mod expr;
+mod limit;
+mod stmt;
+mod text;
 mod tree;
+mod unit;
+
+pub use error::ParseError;
+pub use text::parse;

@@ -23,7 +23,11 @@ fn deepest(a: usize, b: usize) -> usize
 fn kind_of(suffix: Option<u8>) -> Kind
     ensures { result ≡ trees.kind_of suffix }
 {
-    if suffix == Some(8) { Kind::Ring } else { Kind::Index }
+    if suffix == Some(8) {
+        Kind::Ring
+    } else {
+        Kind::Index
+    }
 }
 
 pub fn literal(number: Number) -> Measured

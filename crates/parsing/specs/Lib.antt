@@ -2,5 +2,6 @@ pub mod Code
 pub mod Grammar
 pub mod Limit
 pub mod Reading
+pub mod Refusal
 pub mod Symbol
 pub mod Terminal

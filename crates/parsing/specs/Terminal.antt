@@ -154,20 +154,43 @@ word_of t = record { line = t.line; name = t.bytes }
 abbrev pub name : Lexeme → Option Word
 name t = if on names t then Some (word_of t) else None
 
-abbrev pub is_word_by : TokenKind → Bool
-is_word_by kind.Word = true
-is_word_by _ = false
-
-abbrev pub is_word : Lexeme → Bool
-is_word t = is_word_by t.kind
+-- whether a word has this symbol
+abbrev pub words : Symbol → Bool
+words s.Number = false
+words s.Four = false
+words s.Eight = false
+words s.Open = false
+words s.Close = false
+words s.Comma = false
+words s.Equals = false
+words s.Plus = false
+words s.Minus = false
+words s.Star = false
+words s.Slash = false
+words s.Power = false
+words s.Colon = false
+words s.Colons = false
+words s.Equal = false
+words s.Unequal = false
+words s.Less = false
+words s.AtMost = false
+words s.Greater = false
+words s.AtLeast = false
+words s.And = false
+words s.Or = false
+words s.Not = false
+words s.Sentinel = false
+words s.LineEnd = false
+words s.Other = false
+words _ = true
 
 -- any word
 abbrev pub word : Lexeme → Option Word
-word t = if is_word t then Some (word_of t) else None
+word t = if on words t then Some (word_of t) else None
 
 -- the word that has these letters, of either case
 abbrev pub same_word : List ℕ → Lexeme → Option (Unit {0})
-same_word bytes t = if is_word t && bytes_eq t.bytes (str_to_ascii_lowercase bytes) then Some tt else None
+same_word bytes t = if on words t && bytes_eq t.bytes (str_to_ascii_lowercase bytes) then Some tt else None
 
 abbrev pub number_by : TokenKind → Option Number
 number_by (kind.Number value suffix) = Some (record { value = value; suffix = suffix })

@@ -71,12 +71,6 @@ fn is_same(text: &[u8], other: &[u8]) -> bool
     text.eq_ignore_ascii_case(other)
 }
 
-fn is_word(kind: TokenKind) -> bool
-    ensures { result ≡ terminal.is_word_by kind }
-{
-    matches!(kind, TokenKind::Word)
-}
-
 fn first_symbol(text: &[u8], rest: &[Token]) -> Option<Symbol>
     requires { Are_spans text.now rest.now }
     ensures { result ≡ reading.ahead (map (lexeme text.now) rest.now) }
@@ -189,30 +183,51 @@ impl<'a> Cursor<'a> {
     pub fn word(&mut self, alloc: Global) -> Result<Word, Failure>
         ensures { Reads (reading.token terminal.word self.old) result self.new }
     {
-        match self.rest {
-            [token, rest @ ..] if is_word(token.kind) => {
-                let line = token.line;
-                let name = lowered(alloc, text_of(self.text, *token))?;
-                self.rest = rest;
-                self.ahead = first_symbol(self.text, rest);
-                Ok(Word { line, name })
+        if let [token, rest @ ..] = self.rest {
+            if let Some(ahead) = self.ahead {
+                if ahead.words() {
+                    let line = token.line;
+                    let name = lowered(alloc, text_of(self.text, *token))?;
+                    self.rest = rest;
+                    self.ahead = first_symbol(self.text, rest);
+                    return Ok(Word { line, name });
+                }
             }
-            _ => Err(self.refuse(Cause::Expected)),
         }
+        Err(self.refuse(Cause::Expected))
     }
 
     /// Takes the word that has these letters, in either case.
     pub fn same_word(&mut self, name: &Name) -> Result<(), Failure>
         ensures { Reads (reading.token (terminal.same_word name.now) self.old) result self.new }
     {
-        match self.rest {
-            [token, rest @ ..]
-                if is_word(token.kind) && is_same(text_of(self.text, *token), name.bytes()) => {
-                self.rest = rest;
-                self.ahead = first_symbol(self.text, rest);
-                Ok(())
+        if let [token, rest @ ..] = self.rest {
+            if let Some(ahead) = self.ahead {
+                if ahead.words() && is_same(text_of(self.text, *token), name.bytes()) {
+                    self.rest = rest;
+                    self.ahead = first_symbol(self.text, rest);
+                    return Ok(());
+                }
             }
-            _ => Err(self.refuse(Cause::Expected)),
+        }
+        Err(self.refuse(Cause::Expected))
+    }
+
+    pub fn sees_name(&self) -> bool
+        ensures { result ≡ reading.sees (terminal.on terminal.names) self.now }
+    {
+        match self.ahead {
+            Some(ahead) => ahead.names(),
+            None => false,
+        }
+    }
+
+    pub fn sees_word(&self) -> bool
+        ensures { result ≡ reading.sees (terminal.on terminal.words) self.now }
+    {
+        match self.ahead {
+            Some(ahead) => ahead.words(),
+            None => false,
         }
     }
 }

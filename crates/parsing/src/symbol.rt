@@ -273,4 +273,46 @@ impl Symbol {
                 | Symbol::FormadClose
         )
     }
+
+    /// Whether a word has this symbol.
+    pub fn words(self) -> bool
+        ensures { result ≡ terminal.words self }
+    {
+        match self {
+            Symbol::Number
+            | Symbol::Four
+            | Symbol::Eight
+            | Symbol::Open
+            | Symbol::Close
+            | Symbol::Comma
+            | Symbol::Equals
+            | Symbol::Plus
+            | Symbol::Minus
+            | Symbol::Star
+            | Symbol::Slash
+            | Symbol::Power
+            | Symbol::Colon
+            | Symbol::Colons
+            | Symbol::Equal
+            | Symbol::Unequal
+            | Symbol::Less
+            | Symbol::AtMost
+            | Symbol::Greater
+            | Symbol::AtLeast
+            | Symbol::And
+            | Symbol::Or
+            | Symbol::Not
+            | Symbol::Sentinel
+            | Symbol::LineEnd
+            | Symbol::Other => false,
+            _ => true,
+        }
+    }
+
+    /// Whether a number has this symbol.
+    pub fn numbers(self) -> bool
+        ensures { result ≡ terminal.numbers self }
+    {
+        matches!(self, Symbol::Number | Symbol::Four | Symbol::Eight)
+    }
 }

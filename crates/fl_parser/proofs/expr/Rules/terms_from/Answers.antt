@@ -16,5 +16,5 @@ pub loop-turn-preserved : goal.loop-turn-preserved
 loop-turn-preserved g c =
     let s = c.args.self.now in
     let e = one_more (λ n. turns is_sum_op (λ x. allows (Some c.args.d) x.depth) Deep (spec.plus_one (nat_lt 0 s.brackets) (spec.below s.brackets) (Some c.args.d)) n c.loop-turn.left c.loop-turn.tokens)
-      _ c.loop-turn._turn c.loop-turn-test.true c.loop-turn.invariant.reads in
+    _ c.loop-turn._turn c.loop-turn-test.true c.loop-turn.invariant.reads in
     first_of (search rules, grind (arith, common_steps))

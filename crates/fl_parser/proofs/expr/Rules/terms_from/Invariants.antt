@@ -9,7 +9,7 @@ use Rattle.fl_parser.proofs.expr.Rules.terms_from.Given as goal
 abbrev pub invariant-loop-turn : goal.invariant-loop-turn
 invariant-loop-turn g l = record {
   reads : spec.terms_from (nat_lt 0 l.self.brackets) (spec.below l.self.brackets) (Some l.d) l.fn.left l.initial.tokens
-    ≡ turns is_sum_op (λ x. allows (Some l.d) x.depth) Deep (spec.plus_one (nat_lt 0 l.self.brackets) (spec.below l.self.brackets) (Some l.d)) (l._turn-end - l._turn) l.left l.tokens;
+      ≡ turns is_sum_op (λ x. allows (Some l.d) x.depth) Deep (spec.plus_one (nat_lt 0 l.self.brackets) (spec.below l.self.brackets) (Some l.d)) (l._turn-end - l._turn) l.left l.tokens;
   real : 0 < l.left.depth;
-  shallow : l.left.depth ≤ l.d + 1
+  shallow : l.left.depth ≤ l.d + 1;
 }

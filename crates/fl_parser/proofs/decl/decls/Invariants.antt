@@ -1,0 +1,13 @@
+use Rattle.std.proofs.Common.{◌≡◌, ◌-◌, ◌+◌, ◌≤◌, true, length, Some}
+use Rattle.parsing.specs.declared.symbol.Symbol.TheVariants as s
+use Rattle.parsing.specs.declared.fault.Cause.TheVariants.{Many}
+use Rattle.fl_parser.specs.Trees.{the_limits}
+use Rattle.parsing.specs.Terminal.{is}
+use Rattle.parsing.specs.Limit.{allows}
+use Rattle.parsing.specs.Reading.{turns}
+use Rattle.fl_parser.specs.UnitReading as spec
+use Rattle.fl_parser.proofs.decl.decls.Given as goal
+
+abbrev pub invariant-loop-turn : goal.invariant-loop-turn
+invariant-loop-turn l = spec.decls the_limits l.initial.tokens
+    ≡ turns (is s.Integer) (spec.may_declare the_limits) Many (spec.decl the_limits) (l._turn-end - l._turn) l.found l.tokens

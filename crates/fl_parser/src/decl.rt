@@ -1,0 +1,220 @@
+//! Declarations.
+
+ghost use Rattle.std.specs.Prelude.{◌≡◌, ◌+◌, ◌<◌, ◌≤◌, IfOk, length};
+ghost use Rattle.parsing.specs.Code.{Reads};
+ghost use Rattle.parsing.specs.Reading as reading;
+ghost use Rattle.fl_parser.specs.Terminals as terminals;
+ghost use Rattle.fl_parser.specs.Trees as trees;
+ghost use Rattle.fl_parser.specs.UnitReading as spec;
+
+use crate::limit::NAMES;
+use fl_ast::{Decl, Intent, Kind};
+use fl_base::{Items, Memory};
+use parsing::{Cause, Cursor, Failure, Symbol, Word};
+use std::alloc::Global;
+
+/// What the items of a declaration share.
+#[derive(Clone, Copy)]
+struct Head {
+    line: u32,
+    kind: Kind,
+    intent: Intent,
+}
+
+fn declared(
+    alloc: Global,
+    mut found: Items<Decl>,
+    head: Head,
+    word: Word,
+) -> Result<Items<Decl>, Memory>
+    ensures { IfOk result (λ x. x ≡ trees.declared found head.line head.kind head.intent word) }
+{
+    found.push(Decl {
+        line: head.line,
+        name: word.name,
+        kind: head.kind,
+        intent: head.intent,
+        dims: Items::new(alloc),
+    })?;
+    Ok(found)
+}
+
+fn kind_number(tokens: &mut Cursor<'_>) -> Result<Kind, Failure>
+    ensures { Reads (reading.token terminals.kind_number tokens.old) result tokens.new }
+{
+    match tokens.ahead() {
+        Some(Symbol::Four) => {
+            let _number = tokens.mark(Symbol::Four)?;
+            Ok(Kind::Index)
+        }
+        Some(Symbol::Eight) => {
+            let _number = tokens.mark(Symbol::Eight)?;
+            Ok(Kind::Ring)
+        }
+        _ => Err(tokens.refuse(Cause::Expected)),
+    }
+}
+
+#[tactic(auto, unfolding(crate::specs::UnitReading::kind_word))]
+fn kind_word(tokens: &mut Cursor<'_>) -> Result<(), Failure>
+    ensures { Reads (spec.kind_word tokens.old) result tokens.new }
+{
+    if tokens.sees(Symbol::Kind) {
+        let _kind = tokens.mark(Symbol::Kind)?;
+        let _equals = tokens.mark(Symbol::Equals)?;
+    }
+    Ok(())
+}
+
+#[tactic(auto, unfolding(crate::specs::UnitReading::kind_brackets))]
+fn kind_brackets(tokens: &mut Cursor<'_>) -> Result<Kind, Failure>
+    ensures { Reads (spec.kind_brackets tokens.old) result tokens.new }
+{
+    let _open = tokens.mark(Symbol::Open)?;
+    kind_word(tokens)?;
+    let kind = kind_number(tokens)?;
+    let _close = tokens.mark(Symbol::Close)?;
+    Ok(kind)
+}
+
+#[tactic(auto, unfolding(crate::specs::UnitReading::kind))]
+fn kind(tokens: &mut Cursor<'_>) -> Result<Kind, Failure>
+    ensures { Reads (spec.kind tokens.old) result tokens.new }
+{
+    if tokens.sees(Symbol::Open) {
+        return kind_brackets(tokens);
+    }
+    Ok(Kind::Index)
+}
+
+#[tactic(auto, unfolding(crate::specs::UnitReading::inward))]
+fn inward(tokens: &mut Cursor<'_>) -> Result<Intent, Failure>
+    ensures { Reads (spec.inward tokens.old) result tokens.new }
+{
+    let _in = tokens.mark(Symbol::In)?;
+    if tokens.sees(Symbol::Out) {
+        let _out = tokens.mark(Symbol::Out)?;
+        return Ok(Intent::Both);
+    }
+    Ok(Intent::ReadOnly)
+}
+
+#[tactic(auto, unfolding(crate::specs::UnitReading::outward))]
+fn outward(tokens: &mut Cursor<'_>) -> Result<Intent, Failure>
+    ensures { Reads (spec.outward tokens.old) result tokens.new }
+{
+    if tokens.sees(Symbol::Out) {
+        let _out = tokens.mark(Symbol::Out)?;
+        return Ok(Intent::WriteOnly);
+    }
+    let _inout = tokens.mark(Symbol::InOut)?;
+    Ok(Intent::Both)
+}
+
+#[tactic(auto, unfolding(crate::specs::UnitReading::direction))]
+fn direction(tokens: &mut Cursor<'_>) -> Result<Intent, Failure>
+    ensures { Reads (spec.direction tokens.old) result tokens.new }
+{
+    if tokens.sees(Symbol::In) {
+        return inward(tokens);
+    }
+    outward(tokens)
+}
+
+#[tactic(auto, unfolding(crate::specs::UnitReading::intent_list))]
+fn intent_list(tokens: &mut Cursor<'_>) -> Result<Intent, Failure>
+    ensures { Reads (spec.intent_list tokens.old) result tokens.new }
+{
+    let _comma = tokens.mark(Symbol::Comma)?;
+    let _intent = tokens.mark(Symbol::Intent)?;
+    let _open = tokens.mark(Symbol::Open)?;
+    let intent = direction(tokens)?;
+    let _close = tokens.mark(Symbol::Close)?;
+    let _colons = tokens.mark(Symbol::Colons)?;
+    Ok(intent)
+}
+
+#[tactic(auto, unfolding(crate::specs::UnitReading::colons))]
+fn colons(tokens: &mut Cursor<'_>) -> Result<Intent, Failure>
+    ensures { Reads (spec.colons tokens.old) result tokens.new }
+{
+    if tokens.sees(Symbol::Colons) {
+        let _colons = tokens.mark(Symbol::Colons)?;
+    }
+    Ok(Intent::Unsaid)
+}
+
+#[tactic(auto, unfolding(crate::specs::UnitReading::intent))]
+fn intent(tokens: &mut Cursor<'_>) -> Result<Intent, Failure>
+    ensures { Reads (spec.intent tokens.old) result tokens.new }
+{
+    if tokens.sees(Symbol::Comma) {
+        return intent_list(tokens);
+    }
+    colons(tokens)
+}
+
+#[tactic(auto, unfolding(crate::specs::UnitReading::another_item))]
+fn another_item(
+    alloc: Global,
+    tokens: &mut Cursor<'_>,
+    head: Head,
+    found: Items<Decl>,
+) -> Result<Items<Decl>, Failure>
+    ensures { Reads (spec.another_item trees.the_limits head.line head.kind head.intent found tokens.old) result tokens.new }
+{
+    let _comma = tokens.mark(Symbol::Comma)?;
+    let word = tokens.name(alloc)?;
+    Ok(declared(alloc, found, head, word)?)
+}
+
+fn items(
+    alloc: Global,
+    tokens: &mut Cursor<'_>,
+    head: Head,
+    mut found: Items<Decl>,
+) -> Result<Items<Decl>, Failure>
+    ensures { Reads (spec.items trees.the_limits head.line head.kind head.intent found tokens.old) result tokens.new }
+{
+    for _turn in 0..tokens.len() {
+        if !tokens.sees(Symbol::Comma) {
+            return Ok(found);
+        }
+        if found.len() >= NAMES {
+            return Err(tokens.refuse(Cause::Many));
+        }
+        found = another_item(alloc, tokens, head, found)?;
+    }
+    Ok(found)
+}
+
+#[tactic(auto, unfolding(crate::specs::UnitReading::decl))]
+fn decl(alloc: Global, tokens: &mut Cursor<'_>, found: Items<Decl>) -> Result<Items<Decl>, Failure>
+    ensures { Reads (spec.decl trees.the_limits found tokens.old) result tokens.new }
+{
+    let line = tokens.mark(Symbol::Integer)?;
+    let kind = kind(tokens)?;
+    let intent = intent(tokens)?;
+    let head = Head { line, kind, intent };
+    let word = tokens.name(alloc)?;
+    let first = declared(alloc, found, head, word)?;
+    let found = items(alloc, tokens, head, first)?;
+    let _eol = tokens.mark(Symbol::LineEnd)?;
+    Ok(found)
+}
+
+pub fn decls(alloc: Global, tokens: &mut Cursor<'_>) -> Result<Items<Decl>, Failure>
+    ensures { Reads (spec.decls trees.the_limits tokens.old) result tokens.new }
+{
+    let mut found = Items::new(alloc);
+    for _turn in 0..tokens.len() {
+        if !tokens.sees(Symbol::Integer) {
+            return Ok(found);
+        }
+        if found.len() >= NAMES {
+            return Err(tokens.refuse(Cause::Many));
+        }
+        found = decl(alloc, tokens, found)?;
+    }
+    Ok(found)
+}

@@ -1,0 +1,45 @@
+//! Whole texts.
+
+ghost use Rattle.std.specs.Prelude.{◌≡◌, ◌+◌, ◌<◌, ◌^◌, length, map};
+ghost use Rattle.fl_base.specs.Finds.{Finds};
+ghost use Rattle.tokens.specs.Lexeme.{lexeme};
+ghost use Rattle.tokens.specs.Spans.{Are_spans};
+ghost use Rattle.parsing.specs.Refusal.{all_of};
+ghost use Rattle.parsing.specs.Code.{Gives};
+ghost use Rattle.fl_parser.specs.Parsed.{parsed};
+ghost use Rattle.fl_parser.specs.Trees as trees;
+ghost use Rattle.fl_parser.specs.UnitReading as spec;
+
+use crate::error::{ParseError, error_of};
+use crate::unit::unit;
+use fl_ast::Program;
+use parsing::{Cause, Cursor, Failure};
+use std::alloc::Global;
+use tokens::Token;
+
+fn whole(alloc: Global, text: &[u8], tokens: &[Token]) -> Result<Program, Failure>
+    requires { Are_spans text.now tokens.now }
+    ensures { Gives (all_of (spec.unit trees.the_limits (map (lexeme text.now) tokens.now))) result }
+{
+    let mut cursor = Cursor::new(text, tokens);
+    let found = unit(alloc, &mut cursor)?;
+    if cursor.is_empty() {
+        Ok(found)
+    } else {
+        Err(cursor.refuse(Cause::Expected))
+    }
+}
+
+/// The program that the tokens of a text spell.
+#[tactic(auto, unfolding(crate::specs::Parsed::parsed))]
+pub fn parse(alloc: Global, text: &[u8], tokens: &[Token]) -> Result<Program, ParseError>
+    requires spans { Are_spans text.now tokens.now }
+    requires fits { length text.now + 1 < 2 ^ 32 }
+    ensures { Finds (λ p. p) ParseError.Memory (parsed text.now tokens.now) result }
+{
+    match whole(alloc, text, tokens) {
+        Ok(program) => Ok(program),
+        Err(Failure::Memory) => Err(ParseError::Memory),
+        Err(Failure::Refused(fault)) => Err(error_of(text, tokens, fault)),
+    }
+}
