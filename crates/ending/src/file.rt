@@ -1,3 +1,4 @@
+ghost use Rattle.std.specs.Prelude.{◌≤◌, IfOk, length};
 ghost use Rattle.ending.specs.Plan.{Asks};
 ghost use Rattle.ending.specs.Stage.{IsStage};
 
@@ -15,7 +16,8 @@ pub fn take_file<F: Folder>(
     limit: u64,
     over: &[u8],
 ) -> Result<Vec<u8>, Early>
-    ensures { IsStage (λ bytes. bytes.items) (F.contents folder.old) (F.contents folder.new)
+    ensures within { IfOk result (λ bytes. length bytes.items ≤ limit) }
+    ensures stage { IsStage (λ bytes. bytes.items) (F.contents folder.old) (F.contents folder.new)
         (F.faults folder.old) (F.faults folder.new) (Asks name.now limit over.now) result }
 {
     match folder.take(alloc, name, limit) {
