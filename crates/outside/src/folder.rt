@@ -1,4 +1,4 @@
-ghost use Rattle.std.specs.Prelude.{◌≡◌, ℕ, List, IfSome, IsErrOf};
+ghost use Rattle.std.specs.Prelude.{◌≡◌, ℕ, List, IfOk, IfSome, IsErrOf, ◌≤◌, length};
 ghost use Rattle.std.specs.declared.option.Option.{Option};
 ghost use Rattle.outside.specs.Causes.{HasCause};
 
@@ -28,8 +28,9 @@ pub trait Folder {
     /// How often the folder has failed.
     ghost faults: { Self → ℕ };
 
-    /// The bytes under a name.
+    /// The bytes under a name, never more than the limit.
     fn take(&mut self, alloc: Global, name: &Name, limit: u64) -> Result<Vec<u8>, TakeError>
+        ensures within { IfOk result (λ bytes. length bytes.items ≤ limit) }
         ensures same { contents self.new ≡ contents self.old }
         ensures told { IfSome (contents self.old) (λ files. Takes (files name.now) limit result) }
         ensures cause { HasCause (faults self.old) (faults self.new) (IsErrOf result TakeError.Failed) };

@@ -1,4 +1,4 @@
-ghost use Rattle.std.specs.Prelude.{◌≡◌, ◌+◌, ◌-◌, ◌^◌, ℕ, Some, IfSome, IsErrOf, ◌↔◌, ◌<◌, Contains, length, min, option_map, ◌==◌, IsTrue};
+ghost use Rattle.std.specs.Prelude.{◌≡◌, ◌+◌, ◌-◌, ◌^◌, ℕ, Some, IfOk, IfSome, IsErrOf, ◌≤◌, ◌↔◌, ◌<◌, Contains, length, min, option_map, ◌==◌, IsTrue};
 ghost use Rattle.outside.specs.Causes.{HasCause};
 ghost use Rattle.outside.specs.Files.{found, Takes};
 ghost use Rattle.outside.specs.Calls.{next};
@@ -95,6 +95,7 @@ impl Folder for MemFolder {
     ghost faults = { λ folder. folder.faults };
 
     fn take(&mut self, alloc: Global, name: &Name, limit: u64) -> Result<Vec<u8>, TakeError>
+        ensures within { IfOk result (λ bytes. length bytes.items ≤ limit) }
         ensures same { Some (found self.new.files) ≡ Some (found self.old.files) }
         ensures told { Takes (found self.old.files name.now) limit result }
         ensures cause { HasCause self.old.faults self.new.faults (IsErrOf result TakeError.Failed) }

@@ -39,7 +39,9 @@ fn open<R: Files>(rt: &R, name: &Name) -> Result<R::File, TakeError> {
 }
 
 /// All that a file holds. It reads at most one byte more than the limit.
-fn read_to<F: Read>(alloc: Global, file: &mut F, limit: u64) -> Result<Vec<u8>, TakeError> {
+fn read_to<F: Read>(alloc: Global, file: &mut F, limit: u64) -> Result<Vec<u8>, TakeError>
+    ensures { IfOk result (λ bytes. length bytes.items ≤ limit) }
+{
     let mut bytes = Vec::new(alloc);
     let mut piece = [0u8; PIECE];
     for _ in 0..u64::MAX {
@@ -61,12 +63,9 @@ fn read_to<F: Read>(alloc: Global, file: &mut F, limit: u64) -> Result<Vec<u8>, 
     Err(TakeError::Failed)
 }
 
-fn read_file<R: Files>(
-    rt: &R,
-    alloc: Global,
-    name: &Name,
-    limit: u64,
-) -> Result<Vec<u8>, TakeError> {
+fn read_file<R: Files>(rt: &R, alloc: Global, name: &Name, limit: u64) -> Result<Vec<u8>, TakeError>
+    ensures { IfOk result (λ bytes. length bytes.items ≤ limit) }
+{
     let mut file = open(rt, name)?;
     read_to(alloc, &mut file, limit)
 }

@@ -1,0 +1,4 @@
+pub mod Answers
+pub mod Follow
+pub mod Laws
+pub mod Pieces

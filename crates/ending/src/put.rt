@@ -1,0 +1,119 @@
+ghost use Rattle.ending.specs.Ends.{Puts, IsPut, Finishes};
+
+use crate::early::Early;
+use crate::status::Status;
+use outside::Sink;
+
+/// How many bytes are put at once.
+const PIECE: usize = 4096;
+
+/// Puts the text in pieces, the last one shorter; whether the sink took it whole.
+fn put_all<O: Sink>(out: &mut O, text: &[u8]) -> bool
+    ensures { Puts (O.taken out.old) (O.taken out.new) (O.faults out.old) (O.faults out.new) text.now result }
+{
+    let mut at = 0;
+    while at < text.len() {
+        let size = (text.len() - at).min(PIECE);
+        match out.put(&text[at..at + size]) {
+            Ok(()) => at += size,
+            Err(_) => return false,
+        }
+    }
+    true
+}
+
+/// Puts the text; the status, or that of a write that failed.
+pub fn put_as<O: Sink>(out: &mut O, status: Status, text: &[u8]) -> Status
+    ensures { IsPut (O.taken out.old) (O.taken out.new) (O.faults out.old) (O.faults out.new) status text.now result }
+{
+    if put_all(out, text) {
+        status
+    } else {
+        Status::WriteFault
+    }
+}
+
+/// Ends a command: puts its answer, or what is due in its place.
+pub fn finish<O: Sink>(out: &mut O, outcome: Result<Vec<u8>, Early>) -> Status
+    ensures { Finishes (O.taken out.old) (O.taken out.new) (O.faults out.old) (O.faults out.new) outcome result }
+{
+    match outcome {
+        Ok(text) => put_as(out, Status::Done, &text),
+        Err(Early::Said(due)) => put_as(out, due.status, &due.text),
+        Err(Early::Memory) => put_as(out, Status::NoMemory, b"no memory\n"),
+    }
+}
+
+#[cfg(test)]
+mod tests {
+    use super::*;
+    use outside::MemSink;
+    use std::test::Fail;
+
+    #[derive(Drop)]
+    struct Row {
+        len: usize,
+        room: usize,
+        fails: u64,
+        status: Status,
+        taken: usize,
+    }
+
+    /// Pieces of 4,096 bytes: a second put that fails leaves one piece, and a text of two whole pieces has no third.
+    #[test]
+    fn puts_pieces(rt: HostRuntime) -> Result<(), Fail> {
+        let rows = [
+            Row {
+                len: 0,
+                room: 9000,
+                fails: 1,
+                status: Status::Refused,
+                taken: 0,
+            },
+            Row {
+                len: 5000,
+                room: 9000,
+                fails: 9,
+                status: Status::Refused,
+                taken: 5000,
+            },
+            Row {
+                len: 5000,
+                room: 9000,
+                fails: 2,
+                status: Status::WriteFault,
+                taken: 4096,
+            },
+            Row {
+                len: 5000,
+                room: 4999,
+                fails: 9,
+                status: Status::WriteFault,
+                taken: 4096,
+            },
+            Row {
+                len: 8192,
+                room: 9000,
+                fails: 3,
+                status: Status::Refused,
+                taken: 8192,
+            },
+            Row {
+                len: 8193,
+                room: 9000,
+                fails: 3,
+                status: Status::WriteFault,
+                taken: 8192,
+            },
+        ];
+        for row in rows.iter() {
+            let text = vec![in rt.alloc(); 7u8; row.len]?;
+            let fails = vec![in rt.alloc(); row.fails; 1]?;
+            let mut sink = MemSink::new(rt.alloc(), fails, row.room).map_err(|_| "memory")?;
+            let status = put_as(&mut sink, Status::Refused, &text);
+            assert_eq!(rt; status, row.status);
+            assert_eq!(rt; sink.taken().len(), row.taken);
+        }
+        Ok(())
+    }
+}
