@@ -1,0 +1,174 @@
+//! What the adjoints of an expression's operands grow by.
+
+ghost use Rattle.std.specs.Prelude.{◌≡◌, ◌++◌, ◌∷◌, [], IfOk, OnOk, not, map};
+ghost use Rattle.fl_ast.specs.Tree.{place_tree, expr_tree, expr_trees};
+ghost use Rattle.fl_ast.specs.AdjointTree.{aexpr_tree, aexpr_trees, astmt_tree, adjoint_get, adjoint_literal, adjoint_binary};
+ghost use Rattle.fl_ast.specs.declared.kind.Kind.TheVariants as kind;
+ghost use Rattle.reversal.specs.Reversed as spec;
+
+use crate::name::{adjoint_place, is_active};
+use fl_ast::{AExpr, AStmt, BinOp, Expr, Kind, Place};
+use fl_base::{Boxed, Items, Memory};
+use fl_types::NameSet;
+use std::alloc::Global;
+
+fn binary(alloc: Global, op: BinOp, left: AExpr, right: AExpr) -> Result<AExpr, Memory>
+    ensures { IfOk result (λ e. aexpr_tree e ≡ adjoint_binary op (aexpr_tree left) (aexpr_tree right)) }
+{
+    Ok(AExpr::Bin {
+        op,
+        left: Boxed::new(alloc, left)?,
+        right: Boxed::new(alloc, right)?,
+    })
+}
+
+pub fn get(alloc: Global, place: &Place) -> Result<AExpr, Memory>
+    ensures { IfOk result (λ e. aexpr_tree e ≡ adjoint_get (place_tree place.now)) }
+{
+    Ok(AExpr::Get(place.clone(alloc)?))
+}
+
+pub fn zero() -> AExpr
+    ensures { aexpr_tree result ≡ adjoint_literal 0 kind.Ring }
+{
+    AExpr::Lit {
+        value: 0,
+        kind: Kind::Ring,
+    }
+}
+
+/// The expression as one of an adjoint.
+#[cycle(in_adjoint)]
+pub fn in_adjoint(alloc: Global, expr: &Expr) -> Result<AExpr, Memory>
+    ensures { IfOk result (λ e. aexpr_tree e ≡ spec.in_adjoint (expr_tree expr.now)) }
+{
+    match expr {
+        Expr::Lit { value, kind } => Ok(AExpr::Lit {
+            value: *value,
+            kind: *kind,
+        }),
+        Expr::Get(place) => get(alloc, place),
+        Expr::Neg(inner) => {
+            let inner = in_adjoint(alloc, inner.get())?;
+            Ok(AExpr::Neg(Boxed::new(alloc, inner)?))
+        }
+        Expr::Bin { op, left, right } => {
+            let left = in_adjoint(alloc, left.get())?;
+            let right = in_adjoint(alloc, right.get())?;
+            binary(alloc, *op, left, right)
+        }
+        Expr::Pow { base, exponent } => {
+            let base = in_adjoint(alloc, base.get())?;
+            Ok(AExpr::Pow {
+                base: Boxed::new(alloc, base)?,
+                exponent: *exponent,
+            })
+        }
+        Expr::Call { fun, args } => Ok(AExpr::Call {
+            fun: *fun,
+            args: all_in_adjoint(alloc, args.as_slice())?,
+        }),
+    }
+}
+
+#[cycle(in_adjoint)]
+fn all_in_adjoint(alloc: Global, exprs: &[Expr]) -> Result<Items<AExpr>, Memory>
+    ensures { IfOk result (λ es. aexpr_trees es ≡ spec.all_in_adjoint (expr_trees exprs.now)) }
+{
+    let mut all = Items::new(alloc);
+    for i in 0..exprs.len() {
+        all.push(in_adjoint(alloc, &exprs[i])?)?;
+    }
+    Ok(all)
+}
+
+fn times(alloc: Global, amount: &AExpr, factor: &Expr) -> Result<AExpr, Memory>
+    ensures { IfOk result (λ e. aexpr_tree e ≡ spec.times (aexpr_tree amount.now) (expr_tree factor.now)) }
+{
+    let amount = amount.clone(alloc)?;
+    let factor = in_adjoint(alloc, factor)?;
+    binary(alloc, BinOp::Mul, amount, factor)
+}
+
+/// What the amount becomes at an operand, beside the other one.
+fn amount_at(alloc: Global, op: BinOp, amount: &AExpr, other: &Expr) -> Result<AExpr, Memory>
+    ensures { IfOk result (λ e. aexpr_tree e ≡ spec.amount_at op (aexpr_tree amount.now) (expr_tree other.now)) }
+{
+    match op {
+        BinOp::Mul => times(alloc, amount, other),
+        BinOp::Add | BinOp::Sub | BinOp::Div => amount.clone(alloc),
+    }
+}
+
+fn sign_at_right(op: BinOp, negative: bool) -> bool
+    ensures { result ≡ spec.sign_at_right op negative }
+{
+    match op {
+        BinOp::Sub => !negative,
+        BinOp::Add | BinOp::Mul | BinOp::Div => negative,
+    }
+}
+
+/// The statement that adds the amount to a place's adjoint, or takes it away.
+fn grown(
+    alloc: Global,
+    line: u32,
+    negative: bool,
+    place: &Place,
+    amount: &AExpr,
+) -> Result<AStmt, Memory>
+    ensures { IfOk result (λ s. astmt_tree s ≡ spec.grown line negative (place_tree place.now) (aexpr_tree amount.now)) }
+{
+    let target = adjoint_place(alloc, place)?;
+    let before = get(alloc, &target)?;
+    let amount = amount.clone(alloc)?;
+    let op = if negative { BinOp::Sub } else { BinOp::Add };
+    let value = binary(alloc, op, before, amount)?;
+    Ok(AStmt::Assign {
+        line,
+        atomic: false,
+        target,
+        value,
+    })
+}
+
+/// Where statements are added, and for which names and line.
+#[derive(Drop)]
+pub struct Growth<'a> {
+    pub active: &'a NameSet,
+    pub line: u32,
+}
+
+/// Adds the increments of an expression's operands to the statements.
+pub fn push_increments(
+    alloc: Global,
+    growth: &Growth<'_>,
+    expr: &Expr,
+    negative: bool,
+    amount: &AExpr,
+    statements: &mut Items<AStmt>,
+) -> Result<(), Memory>
+    ensures { OnOk result (map astmt_tree statements.new ≡ map astmt_tree statements.old
+        ++ spec.increments growth.now.active.now.names growth.now.line (expr_tree expr.now) negative (aexpr_tree amount.now)) }
+{
+    match expr {
+        Expr::Get(place) => {
+            if is_active(growth.active, &place.name) {
+                statements.push(grown(alloc, growth.line, negative, place, amount)?)?;
+            }
+            Ok(())
+        }
+        Expr::Neg(inner) => {
+            push_increments(alloc, growth, inner.get(), !negative, amount, statements)
+        }
+        Expr::Bin { op, left, right } => {
+            let (left, right) = (left.get(), right.get());
+            let at_left = amount_at(alloc, *op, amount, right)?;
+            push_increments(alloc, growth, left, negative, &at_left, statements)?;
+            let at_right = amount_at(alloc, *op, amount, left)?;
+            let negative = sign_at_right(*op, negative);
+            push_increments(alloc, growth, right, negative, &at_right, statements)
+        }
+        Expr::Lit { .. } | Expr::Pow { .. } | Expr::Call { .. } => Ok(()),
+    }
+}
