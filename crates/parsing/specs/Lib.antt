@@ -1,4 +1,5 @@
 pub mod Code
+pub mod Freed
 pub mod Grammar
 pub mod Limit
 pub mod Reading
