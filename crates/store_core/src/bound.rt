@@ -105,7 +105,7 @@ pub fn size(axes: &[Axis]) -> u64
 }
 
 /// A declared name with its bounds, `values` giving the scalars in them.
-pub fn shape(alloc: Global, values: &[Entry], decl: &Decl) -> Result<Shape, Memory>
+pub fn declared_shape(alloc: Global, values: &[Entry], decl: &Decl) -> Result<Shape, Memory>
     ensures value { IfOk result (λ s. s ≡ shape_of (value_in values.now) decl.now) }
     ensures low { IfOk result (λ s. All IsLow s.axes) }
 {

@@ -6,7 +6,7 @@ ghost use Rattle.store_core.specs.Bounds.{shape_of};
 ghost use Rattle.store_core.specs.Keys.{keys_of, laid_all, Lays};
 ghost use Rattle.store_core.specs.Places.{declaration_of, local_of, laid_some, shapes_of};
 
-use crate::bound::shape;
+use crate::bound::declared_shape;
 use crate::layout::{Layout, LayoutError};
 use crate::scope::{any_scopes, is_among};
 use crate::values::{Args, Entry};
@@ -69,7 +69,7 @@ fn lay_some(
     ensures { Lays result (laid_some values.now layout (option_copied decl.entry)) }
 {
     match decl {
-        Some(decl) => layout.with(shape(alloc, values, decl)?),
+        Some(decl) => layout.with(declared_shape(alloc, values, decl)?),
         None => Ok(layout),
     }
 }

@@ -10,7 +10,7 @@ mod tape;
 mod text;
 mod values;
 
-pub use bound::{Axis, size};
+pub use bound::{Axis, declared_shape, size};
 pub use cells::Store;
 pub use declared::declaration;
 pub use layout::{Layout, LayoutError, Shape};

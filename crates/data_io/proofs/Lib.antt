@@ -1,0 +1,5 @@
+pub mod Lists
+pub mod Extras
+pub mod First
+pub mod Texts
+pub mod Whole

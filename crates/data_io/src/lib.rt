@@ -1,0 +1,11 @@
+//! Data and seed files in, answers out, as JSON.
+#![tactic(auto)]
+
+mod answer;
+mod data;
+mod number;
+mod read;
+
+pub use answer::{Answer, RaceText, write_answer};
+pub use data::DataError;
+pub use read::{read_args, read_seed};
