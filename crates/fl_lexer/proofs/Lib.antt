@@ -2,3 +2,5 @@ pub mod LineLaws
 pub mod NumberLaws
 pub mod PieceLaws
 pub mod ReadLaws
+pub mod PieceSpelling
+pub mod TextSpelling

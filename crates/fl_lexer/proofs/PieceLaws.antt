@@ -42,13 +42,13 @@ dots_within : (bs : List ℕ) → ((dots_of bs).len ≤ suc (length bs)) × (0 <
 dots_within bs =
     let n = prefix_len is_letter bs in
     chosen (is_dot_word (take n bs) && begins (λ b. eqb b 46) (drop n bs)) _ _ (λ (x : Piece). (x.len ≤ suc (length bs)) × (0 < x.len))
-    (λ h. let some = begins_some (λ b. eqb b 46) (drop n bs) (and_second _ _ h) in (omega (arith, some, length-drop n bs), omega arith))
+    (λ h. let some : 0 < length (drop n bs) = begins_some (λ b. eqb b 46) (drop n bs) (and_second (is_dot_word (take n bs)) _ h) in (omega (arith, some, length-drop n bs), omega arith))
     (λ _. (omega arith, omega arith))
 
 mark_within : (b : ℕ) (bs : List ℕ) → ((mark_of b bs).len ≤ suc (length bs)) × (0 < (mark_of b bs).len)
 mark_within b bs =
     chosen (begins (is_pair b) bs) 2 1 (λ (n : ℕ). (n ≤ suc (length bs)) × (0 < n))
-    (λ h. let some = begins_some (is_pair b) bs h in (omega (arith, some), omega arith))
+    (λ h. let some : 0 < length bs = begins_some (is_pair b) bs h in (omega (arith, some), omega arith))
     (λ _. (omega arith, omega arith))
 
 pub record IsWithin (n : ℕ) (x : Piece) : Type 0 where

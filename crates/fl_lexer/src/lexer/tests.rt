@@ -1,3 +1,5 @@
+ghost use Rattle.std.specs.Prelude.{◌<◌, length};
+
 use super::*;
 use std::alloc::AllocError;
 use std::fmt::Write;
@@ -54,6 +56,12 @@ fn repeated(
     }
     text.push_str(back)?;
     Ok(text)
+}
+
+fn read(alloc: Global, text: &str) -> Result<Vec<Token>, LexError>
+    requires { length text.now < u32.MAX }
+{
+    lex(alloc, text.as_bytes())
 }
 
 #[test]
@@ -160,7 +168,7 @@ fn texts_are_read(rt: HostRuntime) -> Result<(), Fail> {
     ] {
         let mut shown = String::new(rt.alloc());
         assert!(rt; text.len() < 100);
-        show(&mut shown, &lex(rt.alloc(), text.as_bytes()))?;
+        show(&mut shown, &read(rt.alloc(), text))?;
         assert_eq!(rt; shown.as_str(), want, "at {text:?}");
     }
     Ok(())
