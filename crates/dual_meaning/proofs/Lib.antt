@@ -3,6 +3,7 @@ pub mod Trios
 pub mod RunTrios
 pub mod LawProofs
 pub mod Reported
+pub mod Powers
 mod Lines
 mod Loops
 mod Sums

@@ -1,8 +1,10 @@
 //! What a program means: its values, tangents and events, run in order on one thread.
 #![tactic(auto)]
 
+mod arithmetic;
 mod laws;
 mod value;
 
+pub use arithmetic::{binary, called, literal, related};
 pub use laws::{conflict_is_reported, tangents_are_linear, tangents_are_unseen};
 pub use value::{Cause, Dual, TrapAt, Value};
