@@ -102,6 +102,7 @@ ordered_makes a b c e k = by_tests (nat_lt a.iteration b.iteration) (nat_lt b.it
       rises = let l : x.iteration < y.iteration = ltb-true x.iteration y.iteration t in let P : Clash → Type 0 = λ d. d.first < d.second in subst P h l;
       kinds = k;
     }
+
     by_tests : (t s : Bool) → nat_lt a.iteration b.iteration ≡ t → nat_lt b.iteration a.iteration ≡ s
         → Among (if t then record { place = a.place; first = a.iteration; second = b.iteration } ∷ [] else if s then record { place = a.place; first = b.iteration; second = a.iteration } ∷ [] else []) c
         → Makes a b c ⊎ Makes b a c
@@ -134,11 +135,14 @@ with_makes a (b ∷ bs) c h = by_cases (λ g. with_makes a bs c g) (either_of (c
     made : Makes a b c ⊎ Makes b a c → Made (a ∷ b ∷ bs) c
     made (inl m) = record { one = a; other = b; has_one = inl refl; has_other = inr (inl refl); makes = m }
     made (inr m) = record { one = b; other = a; has_one = inr (inl refl); has_other = inl refl; makes = m }
+
     skip : (x : Touch) → Among (a ∷ bs) x → Among (a ∷ b ∷ bs) x
     skip x (inl e) = inl e
     skip x (inr g) = inr (inr g)
+
     wider : Made (a ∷ bs) c → Made (a ∷ b ∷ bs) c
     wider m = record { one = m.one; other = m.other; has_one = skip m.one m.has_one; has_other = skip m.other m.has_other; makes = m.makes }
+
     by_cases : (Among (clashes_with a bs) c → Made (a ∷ bs) c) → Among (clash_of a b) c ⊎ Among (clashes_with a bs) c → Made (a ∷ b ∷ bs) c
     by_cases f (inl g) = made (two_make a b c g)
     by_cases f (inr g) = wider (f g)
@@ -149,6 +153,7 @@ all_made (a ∷ ts) c h = by_cases (λ g. all_made ts c g) (either_of (clashes_w
   where
     wider : Made ts c → Made (a ∷ ts) c
     wider m = record { one = m.one; other = m.other; has_one = inr m.has_one; has_other = inr m.has_other; makes = m.makes }
+
     by_cases : (Among (all_clashes ts) c → Made ts c) → Among (clashes_with a ts) c ⊎ Among (all_clashes ts) c → Made (a ∷ ts) c
     by_cases f (inl g) = with_makes a ts c g
     by_cases f (inr g) = wider (f g)
@@ -176,10 +181,12 @@ found_here a b c m = rw (and_from _ _ (eq-eqb a.place b.place (m.first_place ∙
   where
     less : nat_lt a.iteration b.iteration ≡ true
     less = lt-ltb a.iteration b.iteration (rw (m.first_iteration, m.second_iteration) m.rises)
+
     whole : record { place = a.place; first = a.iteration; second = b.iteration } ≡ c
     whole = ap (λ (x : ℕ). record { place = x; first = a.iteration; second = b.iteration }) m.first_place
         ∙ (ap (λ (x : ℕ). record { place = c.place; first = x; second = b.iteration }) m.first_iteration
         ∙ ap (λ (x : ℕ). record { place = c.place; first = c.first; second = x }) m.second_iteration)
+
     in_turn : (t : Bool) → t ≡ true
         → Among (if t then record { place = a.place; first = a.iteration; second = b.iteration } ∷ [] else if nat_lt b.iteration a.iteration then record { place = a.place; first = b.iteration; second = a.iteration } ∷ [] else []) c
     in_turn true e = inl whole
@@ -190,14 +197,18 @@ found_back a b c m = rw (and_from _ _ (eq-eqb b.place a.place (m.second_place �
   where
     rises : a.iteration < b.iteration
     rises = rw (m.first_iteration, m.second_iteration) m.rises
+
     less : nat_lt a.iteration b.iteration ≡ true
     less = lt-ltb a.iteration b.iteration rises
+
     not_less : nat_lt b.iteration a.iteration ≡ false
     not_less = grind (arith, nat_tests)
+
     whole : record { place = b.place; first = a.iteration; second = b.iteration } ≡ c
     whole = ap (λ (x : ℕ). record { place = x; first = a.iteration; second = b.iteration }) m.second_place
         ∙ (ap (λ (x : ℕ). record { place = c.place; first = x; second = b.iteration }) m.first_iteration
         ∙ ap (λ (x : ℕ). record { place = c.place; first = c.first; second = x }) m.second_iteration)
+
     in_turn : (t s : Bool) → t ≡ false → s ≡ true
         → Among (if t then record { place = b.place; first = b.iteration; second = a.iteration } ∷ [] else if s then record { place = b.place; first = a.iteration; second = b.iteration } ∷ [] else []) c
     in_turn false true e f = inl whole
@@ -247,11 +258,13 @@ least_more c cs (Some m) h = by_test (no_later c m) refl
     all : no_later c m ≡ true → (d : Clash) → Among (c ∷ cs) d → no_later c d ≡ true
     all t d (inl e) = let P : Clash → Type 0 = λ x. no_later c x ≡ true in subst P e (itself c)
     all t d (inr g) = later_both c.place c.first c.second m.place m.first m.second d.place d.first d.second t (h.1 d g)
+
     others : no_later c m ≡ false → (d : Clash) → Among (c ∷ cs) d → no_later m d ≡ true
     others t d (inl e) =
         let u : no_later m c ≡ true = later_total c.place c.first c.second m.place m.first m.second t in
         let P : Clash → Type 0 = λ x. no_later m x ≡ true in subst P e u
     others t d (inr g) = h.1 d g
+
     by_test : (t : Bool) → no_later c m ≡ t → IsLeastOf (c ∷ cs) (if t then Some c else Some m)
     by_test true e = (inl refl, all e)
     by_test false e = (inr h.0, others e)

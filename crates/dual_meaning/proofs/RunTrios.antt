@@ -82,6 +82,7 @@ saving_trio R site x v w u s t r g h = by_test (site.pushed x)
   where
     q : (word_of w ≡ word_of v) × (word_of u ≡ word_of v)
     q = cell_word_trio R v w u g
+
     by_test : (b : Bool) → Tells (TrioCells R) (if b then after (single (pushes (word_of v))) s else s) (if b then after (single (pushes (word_of w))) t else t) (if b then after (single (pushes (word_of u))) r else r)
     by_test true = rw (q.0, q.1) (after_trio (TrioCells R) (single (pushes (word_of v))) s t r h)
     by_test false = h
@@ -177,6 +178,7 @@ turns_of_trio R k first last step site c d e h =
   where
     themselves : (x y z : ℤ) → Tells Equals (turns_by x y z) (turns_by x y z) (turns_by x y z)
     themselves x y z = record { second = refl; third = refl; out = outs_equal (turns_by x y z).out }
+
     at_wholes : {a b c a' b' c' a'' b'' c'' : ℤ} → (b ≡ a) × (c ≡ a) → (b' ≡ a') × (c' ≡ a') → (b'' ≡ a'') × (c'' ≡ a'')
         → Tells Equals (turns_by a a' a'') (turns_by b b' b'') (turns_by c c' c'')
     at_wholes {a = a} {a' = a'} {a'' = a''} p q r = rw (p.0, p.1, q.0, q.1, r.0, r.1) (themselves a a' a'')
@@ -206,7 +208,7 @@ private_words_trio : (R : ℕ → ℕ → ℕ → Type 0) (site : Site) (body : 
 private_words_trio R site body [] c d e h = (refl, refl)
 private_words_trio R site body (x ∷ xs) c d e h =
     let q : (word_of (content_at d (place_of site x [])) ≡ word_of (content_at c (place_of site x []))) × (word_of (content_at e (place_of site x [])) ≡ word_of (content_at c (place_of site x []))) =
-          cell_word_trio R _ _ _ (content_at_trio R c d e (place_of site x []) h) in
+    cell_word_trio R _ _ _ (content_at_trio R c d e (place_of site x []) h) in
     let r : (private_words site body xs d ≡ private_words site body xs c) × (private_words site body xs e ≡ private_words site body xs c) = private_words_trio R site body xs c d e h in
     (rw (q.0, r.0) refl, rw (q.1, r.1) refl)
 

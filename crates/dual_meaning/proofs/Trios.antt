@@ -264,8 +264,10 @@ relates_trio R op v w u v' w' u' h g = by_ranks op
   where
     p : (rank w ≡ rank v) × (rank u ≡ rank v)
     p = rank_trio R v w u h
+
     q : (rank w' ≡ rank v') × (rank u' ≡ rank v')
     q = rank_trio R v' w' u' g
+
     by_ranks : (op : RelOp) → (relates op w w' ≡ relates op v v') × (relates op u u' ≡ relates op v v')
     by_ranks Eq = (rw (p.0, q.0) refl, rw (p.1, q.1) refl)
     by_ranks Ne = (rw (p.0, q.0) refl, rw (p.1, q.1) refl)
@@ -298,6 +300,7 @@ touching_trio Q site x p k t u v h = by_test (site.accessed x)
   where
     l : Log
     l = single (touches (record { place = p; iteration = site.number; kind = k }))
+
     by_test : (b : Bool) → Tells Q (if b then after l t else t) (if b then after l u else u) (if b then after l v else v)
     by_test true = record { second = rw h.second refl; third = rw h.third refl; out = h.out }
     by_test false = h

@@ -7,3 +7,5 @@ pub mod Conflicts
 pub mod Stops
 pub mod Adjoints
 pub mod Laws
+pub mod Codes
+pub mod Answers

@@ -77,7 +77,9 @@ impl Dual {
         let less = self.value.pow(exponent - 1);
         Dual {
             value: self.value.pow(exponent),
-            tangent: Ring::of_word(u64::from(exponent)).mul(less).mul(self.tangent),
+            tangent: Ring::of_word(u64::from(exponent))
+                .mul(less)
+                .mul(self.tangent),
         }
     }
 }
@@ -164,7 +166,11 @@ impl Value {
     pub fn abs(self) -> Result<Value, Cause>
         ensures { result ≡ absolute self }
     {
-        if self.rank() < 0 { self.neg() } else { Ok(self) }
+        if self.rank() < 0 {
+            self.neg()
+        } else {
+            Ok(self)
+        }
     }
 
     pub fn rem(self, other: Value) -> Result<Value, Cause>
