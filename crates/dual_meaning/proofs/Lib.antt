@@ -1,0 +1,10 @@
+pub mod Small
+pub mod Trios
+pub mod RunTrios
+pub mod LawProofs
+pub mod Reported
+pub mod Powers
+mod Lines
+mod Loops
+mod Sums
+mod Mixed

@@ -1,0 +1,98 @@
+-- Resolved trees: the plain tree that each stands for, with the names of a layout for its slots.
+use Rattle.std.specs.Prelude.{ℕ, Bool, true, ◌&&◌, nat_lt, List, [], ◌∷◌, map, Option, Some, None, slice_get, is_some}
+use Rattle.fl_ast.specs.Tree.{Expression, literal, get, minus, binary, power, call, Expressions, no_expressions, expression, expressions_of, Designator, Condition, relation, negation, conjunction, disjunction}
+use Rattle.store_core.specs.declared.layout.Shape.{Shape}
+use Rattle.store_core.specs.Keys.{slot_of}
+use Rattle.dual_meaning.specs.declared.resolved.Code.{Code, fold-Code}
+use Rattle.dual_meaning.specs.declared.resolved.Spot.{Spot, fold-Spot}
+use Rattle.dual_meaning.specs.declared.resolved.Code.TheOpen.{Code-F, Spot-F}
+use Rattle.dual_meaning.specs.declared.resolved.Test.{Test, fold-Test}
+use Rattle.dual_meaning.specs.declared.resolved.Test.TheOpen.{Test-F}
+
+abbrev pub shape_name : Option Shape → List ℕ
+shape_name None = []
+shape_name (Some s) = s.name
+
+-- the name of a slot
+abbrev pub slot_name : List Shape → ℕ → List ℕ
+slot_name shapes slot = shape_name (slice_get shapes slot)
+
+abbrev pub spot_level : List Shape → Spot-F Expression Designator → Designator
+spot_level shapes p = record { name = slot_name shapes p.slot; subscripts = expressions_of p.subscripts }
+
+abbrev pub code_level : Code-F Expression Designator → Expression
+code_level (Code-F.Lit word kind) = literal word kind
+code_level (Code-F.Get p) = get p.name p.subscripts
+code_level (Code-F.Neg a) = minus a
+code_level (Code-F.Bin op a b) = binary op a b
+code_level (Code-F.Pow a n) = power a n
+code_level (Code-F.Call f args) = call f (expressions_of args)
+
+-- the expression that a resolved one stands for
+abbrev pub code_back : List Shape → Code → Expression
+code_back shapes = fold-Code Expression Designator code_level (spot_level shapes)
+
+abbrev pub spot_back : List Shape → Spot → Designator
+spot_back shapes = fold-Spot Expression Designator code_level (spot_level shapes)
+
+abbrev pub codes_back : List Shape → List Code → Expressions
+codes_back shapes codes = expressions_of (map (code_back shapes) codes)
+
+abbrev pub test_level : List Shape → Test-F Condition → Condition
+test_level shapes (Test-F.Rel op a b) = relation op (code_back shapes a) (code_back shapes b)
+test_level shapes (Test-F.Not a) = negation a
+test_level shapes (Test-F.And a b) = conjunction a b
+test_level shapes (Test-F.Or a b) = disjunction a b
+
+abbrev pub test_back : List Shape → Test → Condition
+test_back shapes = fold-Test Condition (test_level shapes)
+
+-- ---- all slots are the layout's
+
+abbrev pub all_of : List Bool → Bool
+all_of [] = true
+all_of (b ∷ bs) = b && all_of bs
+
+abbrev pub spot_within : ℕ → Spot-F Bool Bool → Bool
+spot_within n p = nat_lt p.slot n && all_of p.subscripts
+
+abbrev pub code_within : Code-F Bool Bool → Bool
+code_within (Code-F.Lit word kind) = true
+code_within (Code-F.Get p) = p
+code_within (Code-F.Neg a) = a
+code_within (Code-F.Bin op a b) = a && b
+code_within (Code-F.Pow a n) = a
+code_within (Code-F.Call f args) = all_of args
+
+abbrev pub is_within : ℕ → Code → Bool
+is_within n = fold-Code Bool Bool code_within (spot_within n)
+
+abbrev pub is_spot_within : ℕ → Spot → Bool
+is_spot_within n = fold-Spot Bool Bool code_within (spot_within n)
+
+abbrev pub are_within : ℕ → List Code → Bool
+are_within n codes = all_of (map (is_within n) codes)
+
+abbrev pub test_within : ℕ → Test-F Bool → Bool
+test_within n (Test-F.Rel op a b) = is_within n a && is_within n b
+test_within n (Test-F.Not a) = a
+test_within n (Test-F.And a b) = a && b
+test_within n (Test-F.Or a b) = a && b
+
+abbrev pub is_test_within : ℕ → Test → Bool
+is_test_within n = fold-Test Bool (test_within n)
+
+-- ---- all names of an expression have slots
+
+abbrev mutual
+  pub is_placed : List Shape → Expression → Bool
+  is_placed shapes (literal n k) = true
+  is_placed shapes (get x s) = is_some (slot_of shapes x) && are_placed shapes s
+  is_placed shapes (minus a) = is_placed shapes a
+  is_placed shapes (binary o a b) = is_placed shapes a && is_placed shapes b
+  is_placed shapes (power a n) = is_placed shapes a
+  is_placed shapes (call f s) = are_placed shapes s
+
+  pub are_placed : List Shape → Expressions → Bool
+  are_placed shapes no_expressions = true
+  are_placed shapes (expression a s) = is_placed shapes a && are_placed shapes s

@@ -1,0 +1,11 @@
+pub mod Values
+pub mod Logs
+pub mod Sites
+pub mod Expressions
+pub mod Statements
+pub mod Conflicts
+pub mod Stops
+pub mod Adjoints
+pub mod Laws
+pub mod Codes
+pub mod Answers

@@ -1,0 +1,16 @@
+ghost use Rattle.dual_meaning.specs.Laws.{TangentsAreUnseen, TangentsAreLinear, ConflictIsReported};
+
+/// Values, events, conflicts and traps of a program don't depend on the tangents that it begins with.
+pub fn tangents_are_unseen()
+    ensures { TangentsAreUnseen }
+{}
+
+/// The tangents at the end are linear in those at the beginning.
+pub fn tangents_are_linear()
+    ensures { TangentsAreLinear }
+{}
+
+/// A conflict is reported of a parallel loop's touches exactly where two of them clash, and it is the least.
+pub fn conflict_is_reported()
+    ensures { ConflictIsReported }
+{}
