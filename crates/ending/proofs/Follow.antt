@@ -220,7 +220,29 @@ answers = record { same = refl; counted = omega arith; rose = λ h. absurd h; to
 pub wants : {before : Option Files} {f : ℕ} {plan : Plan} → IsCommand before before f f plan (Err Memory)
 wants = record { same = refl; counted = omega arith; rose = λ h. absurd h; told = λ files e. tt }
 
+-- a part and the part behind it are a part
+pub goes_in : {T A U B : Type 0} {view : T → A} {value : T} {other : U → B}
+    {first : (A → Plan) → Plan} {second : A → (B → Plan) → Plan} {result : Result U Early} →
+    IsPart view first (Ok value) → IsPart other (second (view value)) result → IsPart other (λ rest. first (λ a. second a rest)) result
+goes_in {view = view} {value = value} {other = other} {first = first} {second = second} {result = result} p q = record {
+  clear = q.clear;
+  told = λ files. passes_on view value other files first second result (p.told files) (q.told files);
+}
+
+-- a `?` of a part on a part
+pub ends_in : {T A U B : Type 0} {view : T → A} {other : U → B}
+    {first : (A → Plan) → Plan} {second : A → (B → Plan) → Plan} {early : Early} {result : Result U Early} →
+    IsPart view first (Err early) → IsErr result × IsErrAnd result (λ e. e ≡ early) → IsPart other (λ rest. first (λ a. second a rest)) result
+ends_in {result = Ok u} p e = cc
+ends_in {T = T} {U = U} {view = view} {other = other} {first = first} {second = second} {early = early} {result = Err given} p e =
+    let P : Early → Type 0 = λ x. IsPart other (λ rest. first (λ a. second a rest)) (Err x) in
+    subst P (sym e.1) (record {
+      clear = λ h. p.clear (faults_ends T U early h);
+      told = λ files. passes_ends view other files first second early (p.told files);
+    })
+
 -- for a command's proof
 pub ruleset chain = (goes_on, ends_at, ends_part, stands, gives)
+pub ruleset parts = (goes_in, ends_in)
 
 pub ruleset command = (comes_to, stops_at, stops_part, stands, answers, wants)

@@ -1,0 +1,24 @@
+-- Lines on faults of data files.
+use Rattle.std.specs.Prelude.{ℕ, ◌≡◌, List, ◌++◌, codes, decimal, Result, Ok, Err, Vec}
+use Rattle.std.specs.declared.alloc.Global.{Global}
+use Rattle.std.specs.declared.alloc.AllocError.{AllocError}
+use Rattle.ending.specs.declared.status.Status.{Status}
+use Rattle.ending.specs.declared.early.Early.{Early}
+use Rattle.ending.specs.Stage.{IsSaid}
+
+abbrev pub file_line : List ℕ → List ℕ → List ℕ
+file_line file fault = file ++ codes " file: " ++ fault ++ codes "\n"
+
+abbrev pub name_line : List ℕ → List ℕ → List ℕ → List ℕ
+name_line file name fault = file ++ codes " " ++ name ++ codes ": " ++ fault ++ codes "\n"
+
+abbrev pub number_line : List ℕ → List ℕ → List ℕ → ℕ → List ℕ
+number_line file name fault at = file ++ codes " " ++ name ++ codes ": " ++ fault ++ codes " at " ++ decimal at ++ codes "\n"
+
+abbrev pub shape_line : List ℕ → List ℕ → ℕ → ℕ → List ℕ
+shape_line file name want got = file ++ codes " " ++ name ++ codes ": shape " ++ decimal want ++ codes " " ++ decimal got ++ codes "\n"
+
+-- the answer with a text that was made, or want of memory
+abbrev pub IsSaidBy : Status → Result (Vec ℕ Global) AllocError → Early → Type 0
+IsSaidBy status (Ok text) early = IsSaid status text.items early
+IsSaidBy status (Err e) early = (text : List ℕ) → IsSaid status text early

@@ -1,0 +1,11 @@
+use Rattle.ending.proofs.Follow.{finds, refuses}
+use Rattle.program_stage.proofs.Fault.{type_faultless}
+use Rattle.program_stage.proofs.typing.typed_of.Goals as goal
+
+pub returns-in-Ok : goal.returns-in-Ok
+unfolding Rattle.program_stage.specs.Typing.typed_stage
+returns-in-Ok c = finds _ _ c.in-Ok.ensures
+
+pub returns-in-Err : goal.returns-in-Err
+unfolding Rattle.program_stage.specs.Typing.typed_stage
+returns-in-Err c = refuses _ _ _ _ c.in-Err.ensures c.type_refused.ensures type_faultless

@@ -1,0 +1,21 @@
+-- What is said of tokens that aren't parsed.
+use Rattle.std.specs.Prelude.{ℕ, List, codes}
+use Rattle.ending.specs.declared.status.Status.{Status}
+use Rattle.ending.specs.declared.status.Status.TheVariants.{NoMemory}
+use Rattle.ending.specs.Plan.{Plan, or_say}
+use Rattle.tokens.specs.declared.Token.{Token}
+use Rattle.fl_ast.specs.declared.stmt.Program.{Program}
+use Rattle.fl_parser.specs.declared.error.ParseError.{ParseError}
+use Rattle.fl_parser.specs.declared.error.ParseError.TheVariants.{Expected, Deep, Many, Memory}
+use Rattle.fl_parser.specs.Parsed.{parsed}
+use Rattle.program_stage.specs.Lines.{not_built}
+
+abbrev pub say_parse : ParseError → Status × List ℕ
+say_parse (Expected line col) = not_built
+say_parse (Deep line) = not_built
+say_parse (Many line) = not_built
+say_parse Memory = (NoMemory, codes "no memory\n")
+
+-- the program of the tokens
+unfoldable pub parsed_stage : List ℕ → List Token → (Program → Plan) → Plan
+parsed_stage text tokens rest = or_say say_parse (parsed text tokens) rest

@@ -1,0 +1,60 @@
+ghost use Rattle.std.specs.Prelude.{◌≡◌, IfOk};
+ghost use Rattle.ending.specs.declared.status.Status.TheVariants.{Refused};
+ghost use Rattle.ending.specs.Stage.{IsSaid};
+ghost use Rattle.program_stage.specs.Lines.{refused_line as refused_line_lem, refused_column as refused_column_lem};
+
+use ending::{Due, Early, Status};
+use itoa::Buffer;
+use std::alloc::{AllocError, Global};
+
+fn line_text(alloc: Global, line: u32, phrase: &[u8]) -> Result<Vec<u8>, AllocError>
+    ensures { IfOk result (λ text. text.items ≡ refused_line_lem line phrase.now) }
+{
+    let mut buffer = Buffer::new();
+    let mut text = Vec::from_slice(alloc, b"refused line ")?;
+    text.extend_from_slice(buffer.format(line).as_bytes())?;
+    text.extend_from_slice(b": ")?;
+    text.extend_from_slice(phrase)?;
+    text.extend_from_slice(b"\n")?;
+    Ok(text)
+}
+
+/// A refusal at a line of the program.
+pub(crate) fn refused_line(alloc: Global, line: u32, phrase: &[u8]) -> Early
+    ensures { IsSaid Refused (refused_line_lem line phrase.now) result }
+{
+    match line_text(alloc, line, phrase) {
+        Ok(text) => Early::Said(Due {
+            status: Status::Refused,
+            text,
+        }),
+        Err(_) => Early::Memory,
+    }
+}
+
+fn column_text(alloc: Global, line: u32, col: u32, phrase: &[u8]) -> Result<Vec<u8>, AllocError>
+    ensures { IfOk result (λ text. text.items ≡ refused_column_lem line col phrase.now) }
+{
+    let mut buffer = Buffer::new();
+    let mut text = Vec::from_slice(alloc, b"refused line ")?;
+    text.extend_from_slice(buffer.format(line).as_bytes())?;
+    text.extend_from_slice(b" column ")?;
+    text.extend_from_slice(buffer.format(col).as_bytes())?;
+    text.extend_from_slice(b": ")?;
+    text.extend_from_slice(phrase)?;
+    text.extend_from_slice(b"\n")?;
+    Ok(text)
+}
+
+/// A refusal at a line and a column of the program.
+pub(crate) fn refused_column(alloc: Global, line: u32, col: u32, phrase: &[u8]) -> Early
+    ensures { IsSaid Refused (refused_column_lem line col phrase.now) result }
+{
+    match column_text(alloc, line, col, phrase) {
+        Ok(text) => Early::Said(Due {
+            status: Status::Refused,
+            text,
+        }),
+        Err(_) => Early::Memory,
+    }
+}

@@ -1,0 +1,31 @@
+ghost use Rattle.std.specs.Prelude.{◌≤◌, ◌^◌, length};
+ghost use Rattle.ending.specs.Stage.{IsPart, IsStage};
+ghost use Rattle.program_stage.specs.Programs.{source_stage, program_stage};
+
+use crate::lexing::tokens_of;
+use crate::syntax::program_of;
+use crate::typing::typed_of;
+use ending::{Early, take_file};
+use fl_base::Name;
+use fl_types::Typed;
+use outside::Folder;
+use std::alloc::Global;
+
+/// The typed program of a text.
+fn read_program(alloc: Global, text: &[u8]) -> Result<Typed, Early>
+    requires { length text.now ≤ 2 ^ 20 }
+    ensures { IsPart (λ typed. typed) (source_stage text.now) result }
+{
+    let tokens = tokens_of(alloc, text)?;
+    let program = program_of(alloc, text, &tokens)?;
+    typed_of(alloc, program)
+}
+
+/// The typed program of the program file.
+pub fn load_program<F: Folder>(alloc: Global, folder: &mut F, file: &Name) -> Result<Typed, Early>
+    ensures { IsStage (λ typed. typed) (F.contents folder.old) (F.contents folder.new)
+        (F.faults folder.old) (F.faults folder.new) (program_stage file.now) result }
+{
+    let text = take_file(alloc, folder, file, 1_048_576, b"limit program 1048576\n")?;
+    read_program(alloc, &text)
+}

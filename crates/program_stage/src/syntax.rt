@@ -1,0 +1,36 @@
+ghost use Rattle.std.specs.Prelude.{◌+◌, ◌^◌, ◌<◌, length};
+ghost use Rattle.ending.specs.Stage.{IsPart, IsRefusal};
+ghost use Rattle.fl_parser.specs.declared.error.ParseError.TheVariants.{Memory as memory};
+ghost use Rattle.program_stage.specs.Parsing.{say_parse, parsed_stage};
+ghost use Rattle.tokens.specs.Spans.{Are_spans};
+
+use crate::not_built::not_built;
+use ending::Early;
+use fl_ast::Program;
+use fl_parser::{ParseError, parse};
+use std::alloc::Global;
+use tokens::Token;
+
+/// What is said of tokens that aren't parsed.
+fn parse_refused(alloc: Global, error: ParseError) -> Early
+    ensures { IsRefusal memory say_parse error result }
+{
+    match error {
+        ParseError::Expected { .. } | ParseError::Deep { .. } | ParseError::Many { .. } => {
+            not_built(alloc)
+        }
+        ParseError::Memory => Early::Memory,
+    }
+}
+
+/// The program that the tokens of a text spell.
+pub(crate) fn program_of(alloc: Global, text: &[u8], tokens: &[Token]) -> Result<Program, Early>
+    requires spans { Are_spans text.now tokens.now }
+    requires fits { length text.now + 1 < 2 ^ 32 }
+    ensures { IsPart (λ program. program) (parsed_stage text.now tokens.now) result }
+{
+    match parse(alloc, text, tokens) {
+        Ok(program) => Ok(program),
+        Err(error) => Err(parse_refused(alloc, error)),
+    }
+}
