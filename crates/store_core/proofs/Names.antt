@@ -1,12 +1,15 @@
 -- The subscripts at a position.
-use Rattle.std.proofs.Common.{◌≡◌, ℕ, zero, suc, ◌+◌, ◌*◌, ◌/◌, ◌%◌, ◌<◌, List, [], ◌∷◌, ◌++◌, map, flat_map, length, slice_get, ℤ, pos, ◌+ℤ◌, Some, option_map, refl, ap, ◌∙◌, arith}
+use Rattle.std.proofs.Common.{◌≡◌, ℕ, zero, suc, ◌+◌, ◌*◌, ◌/◌, ◌%◌, ◌<◌, List, [], ◌∷◌, ◌++◌, map, flat_map, length, slice_get, ℤ, pos, ◌+ℤ◌, ◌-◌, ◌≤◌, take, get_or, Some, None, option_map, Result, Ok, Err, IfOk, refl, sym, subst, add-one, length-append, ap, ◌∙◌, arith}
 use Rattle.std.proofs.lemmas.List.{length-map}
 use Rattle.std.proofs.Math.Nat.{div-lt_iff_lt-mul}
 use Rattle.std.proofs.lemmas.Int.{ints}
 use Rattle.store_core.specs.declared.bound.Axis.{Axis}
 use Rattle.store_core.specs.Keys.{run, subscripts_of, size_of}
-use Rattle.store_core.specs.Texts.{subscripts_at}
+use Rattle.store_core.specs.Texts.{subscripts_at, text_of, IsTextAt}
+use Rattle.store_core.specs.declared.layout.Shape.{Shape}
+use Rattle.store_core.specs.Keys.{keys_of, keys_of_shape}
 use Rattle.store_core.proofs.Columns.{length-run}
+use Rattle.store_core.proofs.Slots.{length_shape, got, first_next}
 
 get_left : {A : Type 0} (xs ys : List A) (k : ℕ) → k < length xs → slice_get (xs ++ ys) k ≡ slice_get xs k
 get_left [] ys k h = absurd (omega arith)
@@ -53,3 +56,48 @@ get_subscripts (a ∷ axes) k h =
     let pos_n : 0 < a.extent = p.0 in
     get_block a (subscripts_of axes) k (k % a.extent) (k / a.extent) (omega arith) (omega arith)
     ∙ ap (option_map (λ t. (a.lower +ℤ pos (k % a.extent)) ∷ t)) (get_subscripts axes (k / a.extent) p.1)
+
+key_in : (s : Shape) (k : ℕ) → k < size_of s.axes → slice_get (keys_of_shape s) k ≡ Some (s.name, subscripts_at s.axes k)
+key_in s k h = get_map (λ ss. (s.name, ss)) (subscripts_of s.axes) k ∙ ap (option_map (λ (ss : List ℤ). (s.name, ss))) (get_subscripts s.axes k h)
+
+-- the key at a place of a shape
+key_at : (es : List Shape) (i : ℕ) (s : Shape) (place : ℕ) → slice_get es i ≡ Some s → length (keys_of (take i es)) ≤ place → place < length (keys_of (take (suc i) es))
+    → slice_get (keys_of es) place ≡ Some (s.name, subscripts_at s.axes (place - length (keys_of (take i es))))
+key_at [] i s place is low high = absurd (let f : None ≡ Some s = is in cc)
+key_at (x ∷ es) zero s place is low high =
+    let f : x ≡ s = cc in
+    let l : place < length (keys_of_shape x) = omega (arith, length-append (keys_of_shape x) []) in
+    let b : place < size_of x.axes = omega (arith, length_shape x) in
+    let z : place - 0 ≡ place = omega arith in
+    subst (λ (y : Shape). slice_get (keys_of (x ∷ es)) place ≡ Some (y.name, subscripts_at y.axes (place - 0))) f
+    (get_left (keys_of_shape x) (keys_of es) place l ∙ key_in x place b ∙ ap (λ k. Some (x.name, subscripts_at x.axes k)) (sym z))
+key_at (x ∷ es) (suc i) s place is low high =
+    let n = length (keys_of_shape x) in
+    let a = length-append (keys_of_shape x) (keys_of (take i es)) in
+    let b = length-append (keys_of_shape x) (keys_of (take (suc i) es)) in
+    let e : place ≡ n + (place - n) = omega arith in
+    let d : place - n - length (keys_of (take i es)) ≡ place - length (keys_of_shape x ++ keys_of (take i es)) = omega arith in
+    get_right (keys_of_shape x) (keys_of es) place (place - n) e
+    ∙ key_at es i s (place - n) is (omega arith) (omega arith) ∙ ap (λ k. Some (s.name, subscripts_at s.axes k)) d
+
+pub text_at : (es list : List Shape) (i : ℕ) (s : Shape) (first next place at : ℕ) (text : List ℕ) → list ≡ es → i < length list → s ≡ get_or list i s → first ≡ length (keys_of (take i es))
+    → next ≡ length (keys_of (take (i + 1) es)) → first ≤ place → place < next → at ≡ place - first → text ≡ text_of (s.name, subscripts_at s.axes at) → IsTextAt (keys_of es) place text
+text_at es list i s first next place at text same lt is f n low high a t =
+    let g : slice_get es i ≡ Some s = subst (λ l. slice_get l i ≡ Some s) same (got list i s lt is) in
+    let m : next ≡ length (keys_of (take (suc i) es)) = n ∙ ap (λ k. length (keys_of (take k es))) (add-one i) in
+    let k = key_at es i s place g (omega arith) (omega arith) in
+    let e : place - length (keys_of (take i es)) ≡ at = omega arith in
+    ap (option_map text_of) k ∙ ap (λ q. Some (text_of (s.name, subscripts_at s.axes q))) e ∙ ap Some (sym t)
+
+-- the places of a shape are as many as it has elements
+pub span : (es list : List Shape) (i : ℕ) (s : Shape) (first next : ℕ) → list ≡ es → i < length list → s ≡ get_or list i s → first ≡ length (keys_of (take i es))
+    → next ≡ length (keys_of (take (i + 1) es)) → next ≡ first + size_of s.axes
+span es list i s first next same lt is f n =
+    let g : slice_get es i ≡ Some s = subst (λ l. slice_get l i ≡ Some s) same (got list i s lt is) in
+    n ∙ ap (λ k. length (keys_of (take k es))) (add-one i) ∙ first_next es i s g ∙ ap (λ k. k + size_of s.axes) (sym f)
+
+-- the text is told where there was memory for it
+pub text_at_all : {E V : Type 0} (es list : List Shape) (i : ℕ) (s : Shape) (first next place at : ℕ) (items : V → List ℕ) (r : Result V E) → list ≡ es → i < length list → s ≡ get_or list i s → first ≡ length (keys_of (take i es))
+    → next ≡ length (keys_of (take (i + 1) es)) → first ≤ place → place < next → at ≡ place - first → IfOk r (λ v. items v ≡ text_of (s.name, subscripts_at s.axes at)) → IfOk r (λ v. IsTextAt (keys_of es) place (items v))
+text_at_all es list i s first next place at items (Ok v) same lt is f n low high a t = text_at es list i s first next place at (items v) same lt is f n low high a t
+text_at_all es list i s first next place at items (Err e) same lt is f n low high a t = tt

@@ -166,7 +166,8 @@ impl Layout {
 
     /// The names that have places, in order.
     pub fn shapes(&self) -> &[Shape]
-        ensures { result.now ≡ self.now }
+        ensures value { result.now ≡ self.now }
+        ensures low { All (λ shape. All IsLow shape.axes) self.now }
     {
         self.shapes.as_slice()
     }
@@ -186,6 +187,7 @@ impl Layout {
         ensures value { result ≡ length (keys_of (take (slot + 1) self.now)) }
         ensures small { result ≤ length (keys_of self.now) }
         ensures after { length (keys_of (take slot self.now)) ≤ result }
+        ensures room { result ≤ 2 ^ 20 }
     {
         let _shape = &self.shapes.as_slice()[slot];
         self.firsts[slot + 1]

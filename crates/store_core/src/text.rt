@@ -1,10 +1,11 @@
-ghost use Rattle.std.specs.Prelude.{◌≡◌, ◌++◌, ◌+◌, ◌<◌, ◌≤◌, ◌^◌, ◌≤ℤ◌, ◌+ℤ◌, pos, All, IfOk, OnOk};
+ghost use Rattle.std.specs.Prelude.{◌≡◌, ◌++◌, ◌+◌, ◌<◌, ◌≤◌, ◌^◌, ◌≤ℤ◌, ◌+ℤ◌, pos, All, length, IfOk, OnOk};
 ghost use Rattle.std.specs.Fmt.{signed_decimal};
-ghost use Rattle.store_core.specs.Keys.{size_of};
+ghost use Rattle.store_core.specs.Keys.{keys_of, size_of};
 ghost use Rattle.store_core.specs.Bounds.{IsLow};
-ghost use Rattle.store_core.specs.Texts.{subscripts_at, brackets, rest_text};
+ghost use Rattle.store_core.specs.Texts.{subscripts_at, brackets, rest_text, text_of, IsTextAt};
 
 use crate::bound::Axis;
+use crate::layout::{Layout, Shape};
 use fl_base::{Items, Memory};
 use std::alloc::Global;
 
@@ -71,4 +72,35 @@ fn put_number(alloc: Global, text: &mut Vec<u8>, number: i128) -> Result<(), Mem
     let digits = format!(in alloc; "{number}")?;
     text.extend_from_slice(digits.as_bytes())?;
     Ok(())
+}
+
+impl Layout {
+    /// The text of a place, as `y(2,3)`.
+    pub fn name_of(&self, alloc: Global, place: u32) -> Result<Vec<u8>, Memory>
+        requires { place < length (keys_of self.now) }
+        ensures { IfOk result (λ text. IsTextAt (keys_of self.now) place text.items) }
+    {
+        let shapes = self.shapes();
+        for (slot, shape) in shapes.iter().enumerate() {
+            if place < self.next(slot) {
+                let at = place - self.first(slot);
+                return place_text(alloc, shape, at);
+            }
+        }
+        unreachable!()
+    }
+}
+
+/// The name of a shape with the subscripts at a position.
+fn place_text(alloc: Global, shape: &Shape, at: u32) -> Result<Vec<u8>, Memory>
+    requires below { at < size_of shape.now.axes }
+    requires room { size_of shape.now.axes ≤ 2 ^ 20 }
+    requires lows { All IsLow shape.now.axes }
+    ensures { IfOk result (λ text. text.items
+        ≡ text_of (shape.now.name, subscripts_at shape.now.axes at)) }
+{
+    let mut text = Vec::from_slice(alloc, shape.name.bytes())?;
+    let subscripts = subscripts(alloc, shape.axes.as_slice(), at)?;
+    put_brackets(alloc, &mut text, subscripts.as_slice())?;
+    Ok(text)
 }

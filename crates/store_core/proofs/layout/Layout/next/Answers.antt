@@ -19,3 +19,9 @@ returns-clause-after c =
     let h : IsLaidOut c.args.self.now c.self.inside.firsts.items = subst (λ es. IsLaidOut es c.self.inside.firsts.items) c.self.view_is c.self.invariant in
     let e = c.index.ensures ∙ any_default c.self.inside.firsts.items (c.args.slot + 1) c.index.result.now 0 (omega (arith, h.long)) ∙ h.each (c.args.slot + 1) (omega arith) in
     omega (arith, e, first_before c.args.self.now c.args.slot)
+
+pub returns-clause-room : goal.returns-clause-room
+returns-clause-room c =
+    let h : IsLaidOut c.args.self.now c.self.inside.firsts.items = subst (λ es. IsLaidOut es c.self.inside.firsts.items) c.self.view_is c.self.invariant in
+    let e = c.index.ensures ∙ any_default c.self.inside.firsts.items (c.args.slot + 1) c.index.result.now 0 (omega (arith, h.long)) ∙ h.each (c.args.slot + 1) (omega arith) in
+    omega (arith, e, first_small c.args.self.now (c.args.slot + 1), h.small)
