@@ -1,13 +1,15 @@
 //! The reverse part of an adjoint, over the store and the tape that the forward part left.
 #![tactic(auto)]
 
+ghost use Rattle.std.specs.Prelude.{◌≡◌, IfOk, length};
+
 use fl_ast::Adjoint;
 use fl_base::Memory;
 use flat_code::{Frame, Step, compile, longest};
 use std::alloc::Global;
 use store_core::{Layout, Store, Tape};
 
-/// The reverse part with its names looked up, and made once for a layout.
+/// The reverse part with its names looked up, made once for a layout.
 #[derive(Drop)]
 pub struct Scratch {
     code: Vec<Step>,
@@ -27,26 +29,29 @@ impl Scratch {
 pub fn sweep_all(
     alloc: Global,
     scratch: &Scratch,
-    mut store: Store,
+    store: Store,
     mut tape: Tape,
-) -> Result<Store, Memory> {
-    run(alloc, scratch, &mut store, &mut tape)?;
-    Ok(store)
-}
-
-fn run(alloc: Global, scratch: &Scratch, store: &mut Store, tape: &mut Tape) -> Result<(), Memory> {
+) -> Result<Store, Memory>
+    ensures { IfOk result (λ swept. length swept ≡ length store) }
+{
     let mut frame = Frame::new(alloc, store, scratch.longest)?;
     for step in &scratch.code {
-        match step {
-            Step::Assign { value, cell } => {
-                let word = frame.value(value);
-                frame.store(*cell, word);
-            }
-            Step::Push { .. } => {}
-            Step::Pop { cell } => frame.store(*cell, popped(tape)),
-        }
+        run(step, &mut frame, &mut tape);
     }
-    Ok(())
+    Ok(frame.into_store())
+}
+
+fn run(step: &Step, frame: &mut Frame, tape: &mut Tape)
+    ensures { length frame.new ≡ length frame.old }
+{
+    match step {
+        Step::Assign { value, cell } => {
+            let word = frame.value(value);
+            frame.store(*cell, word);
+        }
+        Step::Push { .. } => {}
+        Step::Pop { cell } => frame.store(*cell, popped(tape)),
+    }
 }
 
 fn popped(tape: &mut Tape) -> u64 {

@@ -1,11 +1,14 @@
 //! The forward part of an adjoint: values, and the tape that the reverse part needs.
 #![tactic(auto)]
 
+ghost use Rattle.std.specs.Prelude.{◌≡◌, OnOk, IfOk, length};
+
 use fl_ast::Adjoint;
 use fl_base::Memory;
 use flat_code::{Frame, Step, compile, longest};
 use ring_core::Steps;
 use std::alloc::Global;
+use std::mem;
 use std::sync::ledger::Ledger;
 use store_core::{Layout, Store, Tape};
 
@@ -17,20 +20,36 @@ pub fn forward<L: Ledger>(
     layout: &Layout,
     store: &mut Store,
     steps: &mut Steps<L>,
-) -> Result<Tape, Memory> {
+) -> Result<Tape, Memory>
+    ensures { OnOk result (length store.new ≡ length store.old) }
+{
     let code = compile(alloc, layout, adjoint.forward.as_slice())?;
-    let mut frame = Frame::new(alloc, store, longest(&code))?;
+    let taken = mem::replace(store, Store::of_words(Vec::new(alloc)));
+    let mut frame = Frame::new(alloc, taken, longest(&code))?;
     let mut tape = Tape::new(alloc);
     for step in &code {
-        match step {
-            Step::Assign { value, cell } => {
-                steps.tick();
-                let word = frame.value(value);
-                frame.store(*cell, word);
-            }
-            Step::Push { cell } => tape.push(frame.load(*cell))?,
-            Step::Pop { .. } => {}
-        }
+        run(step, &mut frame, &mut tape, steps)?;
     }
+    *store = frame.into_store();
     Ok(tape)
+}
+
+fn run<L: Ledger>(
+    step: &Step,
+    frame: &mut Frame,
+    tape: &mut Tape,
+    steps: &mut Steps<L>,
+) -> Result<(), Memory>
+    ensures { OnOk result (length frame.new ≡ length frame.old) }
+{
+    match step {
+        Step::Assign { value, cell } => {
+            steps.tick();
+            let word = frame.value(value);
+            frame.store(*cell, word);
+        }
+        Step::Push { cell } => tape.push(frame.load(*cell))?,
+        Step::Pop { .. } => {}
+    }
+    Ok(())
 }
