@@ -3,3 +3,4 @@ pub mod Pieces
 pub mod Lines
 pub mod Reading
 pub mod Spelling
+pub mod Placement
