@@ -5,4 +5,5 @@ pub mod ReadLaws
 pub mod PieceSpelling
 pub mod TextSpelling
 pub mod Placing
+pub mod Refusing
 pub mod Promises

@@ -71,7 +71,7 @@ body_front : (text : List ℕ) → (m : ℕ) × (body_of text ≡ take m text)
 unfolding body_of
 body_front text = chosen (goes_on text) (take (trimmed_len text - 1) text) text (λ (bs : List ℕ). (m : ℕ) × (bs ≡ take m text)) (λ _. (trimmed_len text - 1, refl)) (λ _. (length text, sym (take-length text)))
 
-text_in_line : (from s : ℕ) (bytes : List ℕ) → (tail : List ℕ) × (drop (from + s) bytes ≡ drop s (body_of (text_from from bytes)) ++ tail)
+pub text_in_line : (from s : ℕ) (bytes : List ℕ) → (tail : List ℕ) × (drop (from + s) bytes ≡ drop s (body_of (text_from from bytes)) ++ tail)
 text_in_line from s bytes =
     let cut = drop from bytes in
     let n = position_or_len is_bang cut in
@@ -175,7 +175,7 @@ text_placed whole more p class from skipped l ls us vs i h (xs, e, a, g, u) o =
     subst (InOrder whole (p.start + at)) (sym (append_assoc (tokens_of p at xs) end vs) ∙ ap (λ ts. ts ++ vs) (sym u))
         (tokens_placed whole (found.0 ++ behind) p at xs (end ++ vs) cut (omega (arith, size, i.room)) a last)
 
-joint_within : (continued : Bool) (l : Line) → prefix_len is_blank l.bytes + joint continued (prefix_len is_blank l.bytes) l ≤ length l.bytes
+pub joint_within : (continued : Bool) (l : Line) → prefix_len is_blank l.bytes + joint continued (prefix_len is_blank l.bytes) l ≤ length l.bytes
 joint_within continued l =
     let from = prefix_len is_blank l.bytes in
     let front : from ≤ length l.bytes = prefix_len-le-length is_blank l.bytes in
@@ -185,7 +185,7 @@ joint_within continued l =
 
 -- A directive's sentinel.
 
-abbrev HasSentinel : List ℕ → Type 0
+abbrev pub HasSentinel : List ℕ → Type 0
 HasSentinel bs = (5 ≤ length bs) × (str_to_ascii_lowercase (take 5 bs) ≡ codes "!$omp")
 
 sentinel_is : (b : ℕ) (bs : List ℕ) → is_bang b ≡ true → is_sentinel bs ≡ true → HasSentinel (b ∷ bs)
@@ -223,7 +223,7 @@ text_directive (b ∷ bs) e =
     let P : LineClass → Type 0 = λ (c : LineClass). c ≡ Directive → HasSentinel (b ∷ bs) in
     chosen (is_bang b) _ _ P (λ h g. bang_directive b bs h g) (λ _ g. absurd (let x : Statement ≡ Directive = g in cc)) e
 
-directive_has : (bytes : List ℕ) → class_of bytes ≡ Directive → HasSentinel (drop (prefix_len is_blank bytes) bytes)
+pub directive_has : (bytes : List ℕ) → class_of bytes ≡ Directive → HasSentinel (drop (prefix_len is_blank bytes) bytes)
 unfolding class_of
 directive_has bytes e = text_directive (drop (prefix_len is_blank bytes) bytes) e
 

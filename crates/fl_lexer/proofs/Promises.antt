@@ -1,6 +1,6 @@
 -- What a call that answers as `lexed` does promises.
 use Rattle.std.proofs.Common.{◌≡◌, ◌≢◌, List, ℕ, Result, Ok, Err, Vec, Global, refl, ap, sym, ◌∙◌}
-use Rattle.std.specs.Prelude.{IfOk}
+use Rattle.std.specs.Prelude.{[], IfOk, IfErr}
 use Rattle.tokens.specs.Spans.{Are_spans}
 use Rattle.tokens.specs.declared.Token.{Token}
 use Rattle.fl_base.specs.Finds.{Finds}
@@ -9,6 +9,8 @@ use Rattle.fl_lexer.specs.declared.error.LexError.TheVariants as errors
 use Rattle.fl_lexer.specs.Reading.{Tokens, lexed}
 use Rattle.fl_lexer.specs.Spelling.{Spells}
 use Rattle.fl_lexer.specs.Placement.{InOrder}
+use Rattle.fl_lexer.specs.Refusals.{refusals, IsFirst}
+use Rattle.fl_lexer.proofs.Refusing.{lexed_refused, lexed_none}
 use Rattle.fl_lexer.proofs.TextSpelling.{lexed_found, lexed_again}
 use Rattle.fl_lexer.proofs.Placing.{spells_in_order, spans_from}
 
@@ -33,3 +35,11 @@ finds_in_order text (Err e) h = tt
 pub finds_spans : (text : List ℕ) (r : Outcome) → Exact text r → IfOk r (λ v. Are_spans text v.items)
 finds_spans text (Ok v) h = spans_from text 0 v.items (spells_in_order text v.items (lexed_found text v.items h))
 finds_spans text (Err e) h = tt
+
+pub finds_none : (text : List ℕ) (r : Outcome) → Exact text r → IfOk r (λ v. refusals text ≡ [])
+finds_none text (Ok v) h = lexed_none text v.items h
+finds_none text (Err e) h = tt
+
+pub finds_refused : (text : List ℕ) (r : Outcome) → Exact text r → IfErr r (λ e. e ≢ errors.Memory → IsFirst (refusals text) e)
+finds_refused text (Ok v) h = tt
+finds_refused text (Err e) h = λ no. lexed_refused text e (h no)

@@ -201,10 +201,10 @@ limit_by false p r us h = (refl, h)
 not_above : (n m : ℕ) → nat_lt m n ≡ false → n ≤ m
 not_above n m h = grind (arith, nat_tests)
 
-not_below : (n m : ℕ) → n ≤ m → nat_lt m n ≡ false
+pub not_below : (n m : ℕ) → n ≤ m → nat_lt m n ≡ false
 not_below n m h = grind (arith, nat_tests)
 
-limit_found : (p : LinePlace) (l : Line) (r : Reading) (us : Tokens) → within_limit p l r ≡ Ok us → (length l.bytes ≤ 1024) × (r ≡ Ok us)
+pub limit_found : (p : LinePlace) (l : Line) (r : Reading) (us : Tokens) → within_limit p l r ≡ Ok us → (length l.bytes ≤ 1024) × (r ≡ Ok us)
 unfolding within_limit
 limit_found p l r us h = let g = limit_by (nat_lt 1024 (length l.bytes)) p r us h in (not_above (length l.bytes) 1024 g.0, g.1)
 

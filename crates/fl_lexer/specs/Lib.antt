@@ -4,3 +4,4 @@ pub mod Lines
 pub mod Reading
 pub mod Spelling
 pub mod Placement
+pub mod Refusals
