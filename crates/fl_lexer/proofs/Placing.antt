@@ -78,10 +78,11 @@ text_in_line from s bytes =
     let text = take n cut in
     let front = body_front text in
     let one = prefix_rest s n cut in
-    let two = prefix_rest s front.0 text in
-    (two.0 ++ one.0,
-        drop_both from s bytes ∙ one.1 ∙ ap (λ bs. bs ++ one.0) (two.1 ∙ ap (λ bs. drop s bs ++ two.0) (sym front.1))
-        ∙ append_assoc (drop s (body_of text)) two.0 one.0)
+    let two = prefix_rest s front.0 text in (
+      two.0 ++ one.0,
+      drop_both from s bytes ∙ one.1 ∙ ap (λ bs. bs ++ one.0) (two.1 ∙ ap (λ bs. drop s bs ++ two.0) (sym front.1))
+          ∙ append_assoc (drop s (body_of text)) two.0 one.0,
+    )
 
 drop_within : (k : ℕ) (xs ys : List ℕ) → k ≤ length xs → drop k (xs ++ ys) ≡ drop k xs ++ ys
 drop_within zero xs ys h = refl
@@ -109,18 +110,22 @@ slice_is whole bs more at h =
     ap (λ n. take n (drop at whole)) e ∙ ap (λ cs. take (length bs) cs) h ∙ take_front bs more
 
 piece_placed : (whole bs more : List ℕ) (p : LinePlace) (at : ℕ) (kind : PieceKind) (rest : List ℕ) (us : Tokens) → drop (p.start + at) whole ≡ bs ++ more →
-  p.start + at + length bs ≤ length whole → IsPiece kind bs rest → InOrder whole (p.start + (at + length bs)) us → InOrder whole (p.start + at) (token_of p at (length bs) kind ++ us)
+    p.start + at + length bs ≤ length whole → IsPiece kind bs rest → InOrder whole (p.start + (at + length bs)) us → InOrder whole (p.start + at) (token_of p at (length bs) kind ++ us)
 piece_placed whole bs more p at Blank rest us h room i o = lower whole (p.start + at) (p.start + (at + length bs)) us (omega arith) o
 piece_placed whole bs more p at (Lexical kind) rest us h room i o =
-    let e : p.start + (at + length bs) ≡ p.start + at + length bs = omega arith in
-    (omega arith, omega arith, room, subst (IsText kind) (sym (slice_is whole bs more (p.start + at) h)) (text_is kind bs rest i),
-        subst (λ (n : ℕ). InOrder whole n us) e o)
+    let e : p.start + (at + length bs) ≡ p.start + at + length bs = omega arith in (
+      omega arith,
+      omega arith,
+      room,
+      subst (IsText kind) (sym (slice_is whole bs more (p.start + at) h)) (text_is kind bs rest i),
+      subst (λ (n : ℕ). InOrder whole n us) e o,
+    )
 piece_placed whole bs more p at BadByte rest us h room i o = absurd i
 piece_placed whole bs more p at LongName rest us h room i o = absurd i
 piece_placed whole bs more p at WideLiteral rest us h room i o = absurd i
 
 tokens_placed : (whole more : List ℕ) (p : LinePlace) (at : ℕ) (xs : List Spelt) (vs : Tokens) → drop (p.start + at) whole ≡ text_of xs ++ more →
-  p.start + at + length (text_of xs) ≤ length whole → AreLongest xs → InOrder whole (p.start + (at + length (text_of xs))) vs → InOrder whole (p.start + at) (tokens_of p at xs ++ vs)
+    p.start + at + length (text_of xs) ≤ length whole → AreLongest xs → InOrder whole (p.start + (at + length (text_of xs))) vs → InOrder whole (p.start + at) (tokens_of p at xs ++ vs)
 tokens_placed whole more p at [] vs h room a o = lower whole (p.start + at) (p.start + (at + 0)) vs (omega arith) o
 tokens_placed whole more p at (x ∷ xs) vs h room a o =
     let n = length x.bytes in
@@ -129,13 +134,13 @@ tokens_placed whole more p at (x ∷ xs) vs h room a o =
     let split : drop (p.start + at) whole ≡ x.bytes ++ (rest ++ more) = h ∙ append_assoc x.bytes rest more in
     let e : p.start + (at + n) ≡ p.start + at + n = omega arith in
     let behind : drop (p.start + (at + n)) whole ≡ rest ++ more =
-        ap (λ k. drop k whole) e ∙ drop_both (p.start + at) n whole ∙ ap (drop n) split ∙ drop_front x.bytes (rest ++ more) in
+    ap (λ k. drop k whole) e ∙ drop_both (p.start + at) n whole ∙ ap (drop n) split ∙ drop_front x.bytes (rest ++ more) in
     let fits : p.start + (at + n) + length rest ≤ length whole = omega (arith, size, room) in
     let one : p.start + at + n ≤ length whole = omega (arith, size, room) in
     let f : p.start + (at + length (x.bytes ++ rest)) ≡ p.start + (at + n + length rest) = omega (arith, size) in
     let rec : InOrder whole (p.start + (at + n)) (tokens_of p (at + n) xs ++ vs) = tokens_placed whole more p (at + n) xs vs behind fits a.1 (subst (λ (k : ℕ). InOrder whole k vs) f o) in
     subst (InOrder whole (p.start + at)) (sym (append_assoc (token_of p at n x.kind) (tokens_of p (at + n) xs) vs))
-        (piece_placed whole x.bytes (rest ++ more) p at x.kind rest (tokens_of p (at + n) xs ++ vs) split one a.0 rec)
+    (piece_placed whole x.bytes (rest ++ more) p at x.kind rest (tokens_of p (at + n) xs ++ vs) split one a.0 rec)
 
 -- A line in the text.
 
@@ -152,17 +157,17 @@ ending_size LineFeed = refl
 ending_size CrLf = refl
 
 end_placed : (g : Bool) (whole more : List ℕ) (p : LinePlace) (l : Line) (at : ℕ) (vs : Tokens) → IsIn whole p l more → at ≤ length l.bytes → InOrder whole (after p l).start vs →
-  InOrder whole (p.start + at) (end_of g p l ++ vs)
+    InOrder whole (p.start + at) (end_of g p l ++ vs)
 end_placed true whole more p l at vs i h o = lower whole (p.start + at) (after p l).start vs (omega (arith, h)) o
 end_placed false whole more p l at vs i h o =
     let n = length l.bytes in
     let cut : drop (p.start + n) whole ≡ ending_bytes l.ending ++ more = drop_both p.start n whole ∙ ap (drop n) i.cut ∙ drop_front l.bytes (ending_bytes l.ending ++ more) in
     let slice : slice_range whole (p.start + n) (p.start + n + ending_len l.ending) ≡ ending_bytes l.ending =
-        ap (λ k. slice_range whole (p.start + n) (p.start + n + k)) (sym (ending_size l.ending)) ∙ slice_is whole (ending_bytes l.ending) more (p.start + n) cut in
+    ap (λ k. slice_range whole (p.start + n) (p.start + n + k)) (sym (ending_size l.ending)) ∙ slice_is whole (ending_bytes l.ending) more (p.start + n) cut in
     (omega (arith, h), omega arith, i.room, (l.ending, slice), o)
 
 text_placed : (whole more : List ℕ) (p : LinePlace) (class : LineClass) (from skipped : ℕ) (l : Line) (ls : List Line) (us vs : Tokens) → IsIn whole p l more →
-  from + skipped ≤ length l.bytes → SpellsText p class from skipped l ls us → InOrder whole (after p l).start vs → InOrder whole (p.start + (from + skipped)) (us ++ vs)
+    from + skipped ≤ length l.bytes → SpellsText p class from skipped l ls us → InOrder whole (after p l).start vs → InOrder whole (p.start + (from + skipped)) (us ++ vs)
 text_placed whole more p class from skipped l ls us vs i h (xs, e, a, g, u) o =
     let at = from + skipped in
     let end = end_of (goes_on (text_from from l.bytes)) p l in
@@ -173,7 +178,7 @@ text_placed whole more p class from skipped l ls us vs i h (xs, e, a, g, u) o =
     let size : length (text_of xs) + at ≤ length l.bytes = omega (arith, ap length body, length-append (text_of xs) found.0, length-drop at l.bytes, h) in
     let last : InOrder whole (p.start + (at + length (text_of xs))) (end ++ vs) = end_placed (goes_on (text_from from l.bytes)) whole more p l (at + length (text_of xs)) vs i (omega (arith, size)) o in
     subst (InOrder whole (p.start + at)) (sym (append_assoc (tokens_of p at xs) end vs) ∙ ap (λ ts. ts ++ vs) (sym u))
-        (tokens_placed whole (found.0 ++ behind) p at xs (end ++ vs) cut (omega (arith, size, i.room)) a last)
+    (tokens_placed whole (found.0 ++ behind) p at xs (end ++ vs) cut (omega (arith, size, i.room)) a last)
 
 pub joint_within : (continued : Bool) (l : Line) → prefix_len is_blank l.bytes + joint continued (prefix_len is_blank l.bytes) l ≤ length l.bytes
 joint_within continued l =
@@ -200,13 +205,14 @@ sentinel_is b (c ∷ d ∷ e ∷ f ∷ bs) h s =
     let first = same_byte c 36 (and_first (eqb c 36) (is_either d 111) two) in
     let second = same_byte (to_ascii_lowercase d) 111 (and_second (eqb c 36) (is_either d 111) two) in
     let third = same_byte (to_ascii_lowercase e) 109 (and_second _ (is_either e 109) three) in
-    let fourth = same_byte (to_ascii_lowercase f) 112 (and_second _ (is_either f 112) four) in
-    (omega arith,
-        ap (λ n. to_ascii_lowercase n ∷ to_ascii_lowercase c ∷ to_ascii_lowercase d ∷ to_ascii_lowercase e ∷ to_ascii_lowercase f ∷ []) (same_byte b 33 h)
-        ∙ ap (λ n. 33 ∷ to_ascii_lowercase n ∷ to_ascii_lowercase d ∷ to_ascii_lowercase e ∷ to_ascii_lowercase f ∷ []) first
-        ∙ ap (λ n. 33 ∷ 36 ∷ n ∷ to_ascii_lowercase e ∷ to_ascii_lowercase f ∷ []) second
-        ∙ ap (λ n. 33 ∷ 36 ∷ 111 ∷ n ∷ to_ascii_lowercase f ∷ []) third
-        ∙ ap (λ n. 33 ∷ 36 ∷ 111 ∷ 109 ∷ n ∷ []) fourth)
+    let fourth = same_byte (to_ascii_lowercase f) 112 (and_second _ (is_either f 112) four) in (
+      omega arith,
+      ap (λ n. to_ascii_lowercase n ∷ to_ascii_lowercase c ∷ to_ascii_lowercase d ∷ to_ascii_lowercase e ∷ to_ascii_lowercase f ∷ []) (same_byte b 33 h)
+          ∙ ap (λ n. 33 ∷ to_ascii_lowercase n ∷ to_ascii_lowercase d ∷ to_ascii_lowercase e ∷ to_ascii_lowercase f ∷ []) first
+          ∙ ap (λ n. 33 ∷ 36 ∷ n ∷ to_ascii_lowercase e ∷ to_ascii_lowercase f ∷ []) second
+          ∙ ap (λ n. 33 ∷ 36 ∷ 111 ∷ n ∷ to_ascii_lowercase f ∷ []) third
+          ∙ ap (λ n. 33 ∷ 36 ∷ 111 ∷ 109 ∷ n ∷ []) fourth,
+    )
 
 other_class : {A : Type 0} (c d : LineClass) → c ≡ d → (c ≡ d → A) → A
 other_class c d e f = f e
@@ -215,7 +221,7 @@ bang_directive : (b : ℕ) (bs : List ℕ) → is_bang b ≡ true → class_of_b
 bang_directive b bs h e =
     let P : LineClass → Type 0 = λ (c : LineClass). c ≡ Directive → HasSentinel (b ∷ bs) in
     chosen (is_sentinel bs) _ _ P (λ s _. sentinel_is b bs h s)
-        (λ _. chosen (is_conditional bs) _ _ P (λ _ g. absurd (let x : Conditional ≡ Directive = g in cc)) (λ _ g. absurd (let x : Empty ≡ Directive = g in cc))) e
+    (λ _. chosen (is_conditional bs) _ _ P (λ _ g. absurd (let x : Conditional ≡ Directive = g in cc)) (λ _ g. absurd (let x : Empty ≡ Directive = g in cc))) e
 
 text_directive : (bs : List ℕ) → class_of_text bs ≡ Directive → HasSentinel bs
 text_directive [] e = absurd (let x : Empty ≡ Directive = e in cc)
@@ -228,7 +234,7 @@ unfolding class_of
 directive_has bytes e = text_directive (drop (prefix_len is_blank bytes) bytes) e
 
 sentinel_placed : (continued : Bool) (whole more : List ℕ) (p : LinePlace) (l : Line) (us : Tokens) → IsIn whole p l more → class_of l.bytes ≡ Directive →
-  InOrder whole (p.start + (prefix_len is_blank l.bytes + 5)) us → InOrder whole (p.start + prefix_len is_blank l.bytes) (cond continued [] (token p (prefix_len is_blank l.bytes) 5 Sentinel ∷ []) ++ us)
+    InOrder whole (p.start + (prefix_len is_blank l.bytes + 5)) us → InOrder whole (p.start + prefix_len is_blank l.bytes) (cond continued [] (token p (prefix_len is_blank l.bytes) 5 Sentinel ∷ []) ++ us)
 sentinel_placed true whole more p l us i d o = let from = prefix_len is_blank l.bytes in lower whole (p.start + from) (p.start + (from + 5)) us (omega arith) o
 sentinel_placed false whole more p l us i d o =
     let from = prefix_len is_blank l.bytes in
@@ -237,14 +243,17 @@ sentinel_placed false whole more p l us i d o =
     let cut = line_cut whole more p l from i front in
     let e : p.start + from + 5 - (p.start + from) ≡ 5 = omega arith in
     let slice : slice_range whole (p.start + from) (p.start + from + 5) ≡ take 5 (drop from l.bytes) =
-        ap (λ n. take n (drop (p.start + from) whole)) e ∙ ap (take 5) cut ∙ take-append-le 5 (drop from l.bytes) (ending_bytes l.ending ++ more) has.0 in
-    let f : p.start + (from + 5) ≡ p.start + from + 5 = omega arith in
-    (omega arith, omega arith, omega (arith, has.0, length-drop from l.bytes, front, i.room),
-        ap str_to_ascii_lowercase slice ∙ has.1,
-        subst (λ (n : ℕ). InOrder whole n us) f o)
+    ap (λ n. take n (drop (p.start + from) whole)) e ∙ ap (take 5) cut ∙ take-append-le 5 (drop from l.bytes) (ending_bytes l.ending ++ more) has.0 in
+    let f : p.start + (from + 5) ≡ p.start + from + 5 = omega arith in (
+      omega arith,
+      omega arith,
+      omega (arith, has.0, length-drop from l.bytes, front, i.room),
+      ap str_to_ascii_lowercase slice ∙ has.1,
+      subst (λ (n : ℕ). InOrder whole n us) f o,
+    )
 
 class_placed : (class : LineClass) (continued : Bool) (whole more : List ℕ) (p : LinePlace) (l : Line) (ls : List Line) (us vs : Tokens) → class_of l.bytes ≡ class → IsIn whole p l more →
-  SpellsClass p continued class l ls us → InOrder whole (after p l).start vs → InOrder whole p.start (us ++ vs)
+    SpellsClass p continued class l ls us → InOrder whole (after p l).start vs → InOrder whole p.start (us ++ vs)
 class_placed Empty continued whole more p l ls us vs is i s o =
     subst (λ (ws : Tokens). InOrder whole p.start (ws ++ vs)) (sym s) (lower whole p.start (after p l).start vs (omega arith) o)
 class_placed Conditional continued whole more p l ls us vs is i s o = absurd s
@@ -261,25 +270,25 @@ class_placed Directive continued whole more p l ls us vs is i (ws, s, e) o =
     let none : from + 5 + 0 ≡ from + 5 = omega arith in
     let text : InOrder whole (p.start + (from + 5)) (ws ++ vs) = subst (λ (n : ℕ). InOrder whole (p.start + n) (ws ++ vs)) none (text_placed whole more p Directive (from + 5) 0 l ls ws vs i room s o) in
     lower whole p.start (p.start + from) (us ++ vs) (omega arith)
-        (subst (InOrder whole (p.start + from)) (sym (append_assoc first ws vs) ∙ ap (λ ts. ts ++ vs) (sym e)) (sentinel_placed continued whole more p l (ws ++ vs) i is text))
+    (subst (InOrder whole (p.start + from)) (sym (append_assoc first ws vs) ∙ ap (λ ts. ts ++ vs) (sym e)) (sentinel_placed continued whole more p l (ws ++ vs) i is text))
 
 lines_placed : (whole : List ℕ) (p : LinePlace) (continued : Bool) (ls : List Line) (us : Tokens) → drop p.start whole ≡ text_of_lines ls → p.start ≤ length whole →
-  SpellLines p continued ls us → InOrder whole p.start us
+    SpellLines p continued ls us → InOrder whole p.start us
 lines_placed whole p continued [] us cut room s = subst (InOrder whole p.start) (sym s) tt
 lines_placed whole p continued (l ∷ ls) us cut room (vs, ws, limit, s, rest, e) =
     let n = length l.bytes in
     let tail = text_of_lines ls in
     let behind = ending_bytes l.ending ++ tail in
     let size : length (drop p.start whole) ≡ n + (ending_len l.ending + length tail) =
-        ap length cut ∙ omega (arith, length-append l.bytes behind, length-append (ending_bytes l.ending) tail, ending_size l.ending) in
+    ap length cut ∙ omega (arith, length-append l.bytes behind, length-append (ending_bytes l.ending) tail, ending_size l.ending) in
     let fits : p.start + n + ending_len l.ending ≤ length whole = omega (arith, size, length-drop p.start whole, room) in
     let i : IsIn whole p l tail = record { cut = cut; room = fits } in
     let sized : p.start + n + ending_len l.ending ≡ p.start + n + length (ending_bytes l.ending) = ap (λ k. p.start + n + k) (sym (ending_size l.ending)) in
     let next : drop (after p l).start whole ≡ tail =
-        ap (λ k. drop k whole) sized ∙ drop_both (p.start + n) (length (ending_bytes l.ending)) whole
-        ∙ ap (drop (length (ending_bytes l.ending))) (drop_both p.start n whole ∙ ap (drop n) cut ∙ drop_front l.bytes behind) ∙ drop_front (ending_bytes l.ending) tail in
+    ap (λ k. drop k whole) sized ∙ drop_both (p.start + n) (length (ending_bytes l.ending)) whole
+    ∙ ap (drop (length (ending_bytes l.ending))) (drop_both p.start n whole ∙ ap (drop n) cut ∙ drop_front l.bytes behind) ∙ drop_front (ending_bytes l.ending) tail in
     subst (InOrder whole p.start) (sym e)
-        (class_placed (class_of l.bytes) continued whole tail p l ls vs ws refl i s (lines_placed whole (after p l) (leaves_open continued (class_of l.bytes) l.bytes) ls ws next fits rest))
+    (class_placed (class_of l.bytes) continued whole tail p l ls vs ws refl i s (lines_placed whole (after p l) (leaves_open continued (class_of l.bytes) l.bytes) ls ws next fits rest))
 
 -- the tokens that a text spells are slices of it, in order
 pub spells_in_order : (whole : List ℕ) (us : Tokens) → Spells whole us → InOrder whole 0 us

@@ -96,7 +96,7 @@ bad_from p (suc n) at [] = tt
 bad_from p zero at (b ∷ bs) =
     let x = piece_of (b ∷ bs) in
     every_append (λ r. p.start + at ≤ r.at) (bad_piece p at x.kind) (bad_pieces p (x.len - 1) (at + 1) bs) (bad_piece_from p at x.kind).0
-        (from_lower (p.start + at) (p.start + (at + 1)) (bad_pieces p (x.len - 1) (at + 1) bs) (omega arith) (bad_from p (x.len - 1) (at + 1) bs))
+    (from_lower (p.start + at) (p.start + (at + 1)) (bad_pieces p (x.len - 1) (at + 1) bs) (omega arith) (bad_from p (x.len - 1) (at + 1) bs))
 bad_from p (suc n) at (b ∷ bs) = from_lower (p.start + at) (p.start + (at + 1)) (bad_pieces p n (at + 1) bs) (omega arith) (bad_from p n (at + 1) bs)
 
 bad_below : (p : LinePlace) (n at : ℕ) (bs : List ℕ) → Below (p.start + at + length bs) (bad_pieces p n at bs)
@@ -106,13 +106,13 @@ bad_below p (suc n) at [] = tt
 bad_below p zero at (b ∷ bs) =
     let x = piece_of (b ∷ bs) in
     every_append (λ r. r.at < p.start + at + suc (length bs)) (bad_piece p at x.kind) (bad_pieces p (x.len - 1) (at + 1) bs)
-        (below_higher (p.start + at + 1) (p.start + at + suc (length bs)) (bad_piece p at x.kind) (omega arith) (bad_piece_from p at x.kind).1)
-        (below_higher (p.start + (at + 1) + length bs) (p.start + at + suc (length bs)) (bad_pieces p (x.len - 1) (at + 1) bs) (omega arith) (bad_below p (x.len - 1) (at + 1) bs))
+    (below_higher (p.start + at + 1) (p.start + at + suc (length bs)) (bad_piece p at x.kind) (omega arith) (bad_piece_from p at x.kind).1)
+    (below_higher (p.start + (at + 1) + length bs) (p.start + at + suc (length bs)) (bad_pieces p (x.len - 1) (at + 1) bs) (omega arith) (bad_below p (x.len - 1) (at + 1) bs))
 bad_below p (suc n) at (b ∷ bs) =
     below_higher (p.start + (at + 1) + length bs) (p.start + at + suc (length bs)) (bad_pieces p n (at + 1) bs) (omega arith) (bad_below p n (at + 1) bs)
 
 ok_by_kind : (p : LinePlace) (at n : ℕ) (ts us : Tokens) (kind : PieceKind) (f : Tokens → Reading) (rs : List Refusal) →
-  ((vs : Tokens) → f vs ≡ Ok us → rs ≡ []) → (with_piece p at ts n kind >>= f) ≡ Ok us → bad_piece p at kind ++ rs ≡ []
+    ((vs : Tokens) → f vs ≡ Ok us → rs ≡ []) → (with_piece p at ts n kind >>= f) ≡ Ok us → bad_piece p at kind ++ rs ≡ []
 ok_by_kind p at n ts us Blank f rs rec h = rec ts h
 ok_by_kind p at n ts us (Lexical kind) f rs rec h = rec (ts ++ token p at n kind ∷ []) h
 ok_by_kind p at n ts us BadByte f rs rec h = no_err _ us h
@@ -129,14 +129,16 @@ pieces_none p zero at (b ∷ bs) ts us h =
 pieces_none p (suc n) at (b ∷ bs) ts us h = pieces_none p n (at + 1) bs ts us h
 
 here : (p : LinePlace) (at : ℕ) (e : Refusal) (error : LexError) (rs : List Refusal) → From (p.start + (at + 1)) rs → ◌≡◌ {A = Reading} (Err (refusal p at error)) (Err e) →
-  First e (refusal p at error ∷ rs)
+    First e (refusal p at error ∷ rs)
 here p at e error rs low h =
-    let same : refusal p at error ≡ e = err_same (refusal p at error) e h in
-    (rs, ap (λ r. r ∷ rs) same,
-        every_weaker (λ r. p.start + (at + 1) ≤ r.at) (λ r. e.at < r.at) rs (λ r g. let k : p.start + at ≡ e.at = ap (λ q. q.at) same in omega (arith, g, k)) low)
+    let same : refusal p at error ≡ e = err_same (refusal p at error) e h in (
+      rs,
+      ap (λ r. r ∷ rs) same,
+      every_weaker (λ r. p.start + (at + 1) ≤ r.at) (λ r. e.at < r.at) rs (λ r g. let k : p.start + at ≡ e.at = ap (λ q. q.at) same in omega (arith, g, k)) low,
+    )
 
 err_by_kind : (p : LinePlace) (at n : ℕ) (ts : Tokens) (e : Refusal) (kind : PieceKind) (f : Tokens → Reading) (rs : List Refusal) → From (p.start + (at + 1)) rs →
-  ((vs : Tokens) → f vs ≡ Err e → First e rs) → (with_piece p at ts n kind >>= f) ≡ Err e → First e (bad_piece p at kind ++ rs)
+    ((vs : Tokens) → f vs ≡ Err e → First e rs) → (with_piece p at ts n kind >>= f) ≡ Err e → First e (bad_piece p at kind ++ rs)
 err_by_kind p at n ts e Blank f rs low rec h = rec ts h
 err_by_kind p at n ts e (Lexical kind) f rs low rec h = rec (ts ++ token p at n kind ∷ []) h
 err_by_kind p at n ts e BadByte f rs low rec h = here p at e _ rs low h
@@ -150,7 +152,7 @@ pieces_first p (suc n) at [] ts e h = no_ok ts e h
 pieces_first p zero at (b ∷ bs) ts e h =
     let x = piece_of (b ∷ bs) in
     err_by_kind p at x.len ts e x.kind (pieces p (x.len - 1) (at + 1) bs) (bad_pieces p (x.len - 1) (at + 1) bs) (bad_from p (x.len - 1) (at + 1) bs)
-        (λ vs g. pieces_first p (x.len - 1) (at + 1) bs vs e g) h
+    (λ vs g. pieces_first p (x.len - 1) (at + 1) bs vs e g) h
 pieces_first p (suc n) at (b ∷ bs) ts e h = pieces_first p n (at + 1) bs ts e h
 
 -- The end of a line's text.
@@ -201,12 +203,12 @@ end_bounds p class from l ls =
     let P : List Refusal → Type 0 = Every (Ends p from l) in
     chosen (goes_on text) _ _ P
     (λ g.
-        let n = trimmed_len text in
-        let some : 0 < n = goes_some text g in
-        let size : length (body_of text) ≡ n - 1 = ap length (body_is text g) ∙ length-take-le (n - 1) text (omega arith) in
-        let fits : length text ≤ length l.bytes - from = text_size from l.bytes in
-        let within : n ≤ length text = omega arith in
-        chosen (continues class (next_class ls)) _ _ P (λ _. tt) (λ _. ((omega (arith, size), omega (arith, some, fits, within)), tt)))
+    let n = trimmed_len text in
+    let some : 0 < n = goes_some text g in
+    let size : length (body_of text) ≡ n - 1 = ap length (body_is text g) ∙ length-take-le (n - 1) text (omega arith) in
+    let fits : length text ≤ length l.bytes - from = text_size from l.bytes in
+    let within : n ≤ length text = omega arith in
+    chosen (continues class (next_class ls)) _ _ P (λ _. tt) (λ _. ((omega (arith, size), omega (arith, some, fits, within)), tt)))
     (λ _. tt)
 
 -- The text of a line.
@@ -223,16 +225,16 @@ first_holds : (P : Refusal → Type 0) (e : Refusal) (rs : List Refusal) → Fir
 first_holds P e rs (qs, h, a) all = (subst (Every P) h all).0
 
 text_first_by : (p : LinePlace) (class : LineClass) (from skipped : ℕ) (l : Line) (ls : List Line) (ts : Tokens) (e : Refusal) →
-  let body = body_of (text_from from l.bytes) in
-  (pieces p skipped from body ts ≡ Err e) ⊎ ((us : Tokens) × (pieces p skipped from body ts ≡ Ok us) × (ended p class from l ls us ≡ Err e)) →
-  First e (bad_pieces p skipped from body ++ bad_end p class from l ls)
+    let body = body_of (text_from from l.bytes) in
+    (pieces p skipped from body ts ≡ Err e) ⊎ ((us : Tokens) × (pieces p skipped from body ts ≡ Ok us) × (ended p class from l ls us ≡ Err e)) →
+    First e (bad_pieces p skipped from body ++ bad_end p class from l ls)
 unfolding Ends
 text_first_by p class from skipped l ls ts e (inl h) =
     let body = body_of (text_from from l.bytes) in
     let first = pieces_first p skipped from body ts e h in
     let before : e.at < p.start + from + length body = first_holds (λ r. r.at < p.start + from + length body) e (bad_pieces p skipped from body) first (bad_below p skipped from body) in
     first_append e (bad_pieces p skipped from body) (bad_end p class from l ls) first
-        (every_weaker (Ends p from l) (λ q. e.at < q.at) (bad_end p class from l ls) (λ r g. omega (arith, before, g.0)) (end_bounds p class from l ls))
+    (every_weaker (Ends p from l) (λ q. e.at < q.at) (bad_end p class from l ls) (λ r g. omega (arith, before, g.0)) (end_bounds p class from l ls))
 text_first_by p class from skipped l ls ts e (inr (us, g, h)) =
     let body = body_of (text_from from l.bytes) in
     subst (λ (rs : List Refusal). First e (rs ++ bad_end p class from l ls)) (sym (pieces_none p skipped from body ts us g)) (ended_first p class from l ls us e h)
@@ -253,9 +255,9 @@ text_bounds p class from skipped l ls h =
     let found = text_in_line from 0 l.bytes in
     let size : from + length body ≤ length l.bytes = omega (arith, ap length found.1, length-append body found.0, length-drop (from + 0) l.bytes, h) in
     every_append (Bounds p l) rs (bad_end p class from l ls)
-        (every_both (λ r. p.start + from ≤ r.at) (λ r. r.at < p.start + from + length body) (Bounds p l) rs (λ r f g. (omega (arith, f), omega (arith, g, size)))
-            (bad_from p skipped from body) (bad_below p skipped from body))
-        (every_weaker (Ends p from l) (Bounds p l) (bad_end p class from l ls) (λ r g. (omega (arith, g.0), g.1)) (end_bounds p class from l ls))
+    (every_both (λ r. p.start + from ≤ r.at) (λ r. r.at < p.start + from + length body) (Bounds p l) rs (λ r f g. (omega (arith, f), omega (arith, g, size)))
+    (bad_from p skipped from body) (bad_below p skipped from body))
+    (every_weaker (Ends p from l) (Bounds p l) (bad_end p class from l ls) (λ r g. (omega (arith, g.0), g.1)) (end_bounds p class from l ls))
 
 -- A line of its class.
 
@@ -298,7 +300,7 @@ class_bounds p continued Directive l ls h =
 first_decides : (e : Refusal) (rs : List Refusal) → First e rs → Among e rs × Every (Decides e) rs
 first_decides e rs (qs, h, a) =
     subst (λ (xs : List Refusal). Among e xs × Every (Decides e) xs) (sym h)
-        (inl refl, (inr (refl, inl refl), every_weaker (λ q. e.at < q.at) (Decides e) qs (λ q g. inl g) a))
+    (inl refl, (inr (refl, inl refl), every_weaker (λ q. e.at < q.at) (Decides e) qs (λ q g. inl g) a))
 
 below_true : (m n : ℕ) → nat_lt m n ≡ true → m < n
 below_true m n h = grind (arith, nat_tests)
@@ -321,7 +323,7 @@ Holds : LinePlace → Line → List Refusal → Refusal → Type 0
 Holds p l rs e = Among e rs × Every (Decides e) rs × (p.start ≤ e.at) × (e.at < p.start + length l.bytes)
 
 shorter_by : (t : Bool) (p : LinePlace) (l : Line) (rs : List Refusal) (f e : Refusal) → nat_lt f.at (p.start + 1024) ≡ t → 1024 < length l.bytes → First f rs → Every (Bounds p l) rs →
-  ◌≡◌ {A = Reading} (cond t (Err f) (Err (long_line p))) (Err e) → Holds p l (rs ++ long_line p ∷ []) e
+    ◌≡◌ {A = Reading} (cond t (Err f) (Err (long_line p))) (Err e) → Holds p l (rs ++ long_line p ∷ []) e
 unfolding Holds Bounds
 shorter_by true p l rs f e t long first all h =
     let same : f ≡ e = err_same f e h in
@@ -335,22 +337,22 @@ shorter_by false p l rs f e t long (qs, k, a) all h =
     let same : long_line p ≡ e = err_same (long_line p) e h in
     let low : p.start + 1024 ≤ f.at = below_false f.at (p.start + 1024) t in
     let each : Every (Decides (long_line p)) rs =
-        subst (Every (Decides (long_line p))) (sym k)
-            (long_decides (long_line p) f tt low, every_weaker (λ q. f.at < q.at) (Decides (long_line p)) qs (λ q g. long_decides (long_line p) q tt (omega (arith, g, low))) a) in
+    subst (Every (Decides (long_line p))) (sym k)
+    (long_decides (long_line p) f tt low, every_weaker (λ q. f.at < q.at) (Decides (long_line p)) qs (λ q g. long_decides (long_line p) q tt (omega (arith, g, low))) a) in
     subst (Holds p l (rs ++ long_line p ∷ [])) same
-        (among_last (long_line p) rs, every_append (Decides (long_line p)) rs (long_line p ∷ []) each (inr (refl, inl refl), tt), omega arith, omega (arith, long))
+    (among_last (long_line p) rs, every_append (Decides (long_line p)) rs (long_line p ∷ []) each (inr (refl, inl refl), tt), omega arith, omega (arith, long))
 
 longer_by : (p : LinePlace) (l : Line) (rs : List Refusal) (r : Reading) (e : Refusal) → 1024 < length l.bytes → ((us : Tokens) → r ≡ Ok us → rs ≡ []) →
-  ((f : Refusal) → r ≡ Err f → First f rs) → Every (Bounds p l) rs → sooner p r ≡ Err e → Holds p l (rs ++ long_line p ∷ []) e
+    ((f : Refusal) → r ≡ Err f → First f rs) → Every (Bounds p l) rs → sooner p r ≡ Err e → Holds p l (rs ++ long_line p ∷ []) e
 unfolding Holds
 longer_by p l rs (Ok us) e long none first all h =
     let same : long_line p ≡ e = err_same (long_line p) e h in
     subst (λ (xs : List Refusal). Holds p l (xs ++ long_line p ∷ []) e) (sym (none us refl))
-        (subst (Holds p l (long_line p ∷ [])) same (inl refl, (inr (refl, inl refl), tt), omega arith, omega (arith, long)))
+    (subst (Holds p l (long_line p ∷ [])) same (inl refl, (inr (refl, inl refl), tt), omega arith, omega (arith, long)))
 longer_by p l rs (Err f) e long none first all h = shorter_by (nat_lt f.at (p.start + 1024)) p l rs f e refl long (first f refl) all h
 
 limited_by : (t : Bool) (p : LinePlace) (l : Line) (rs : List Refusal) (r : Reading) (e : Refusal) → nat_lt 1024 (length l.bytes) ≡ t → ((us : Tokens) → r ≡ Ok us → rs ≡ []) →
-  ((f : Refusal) → r ≡ Err f → First f rs) → Every (Bounds p l) rs → cond t (sooner p r) r ≡ Err e → Holds p l (rs ++ cond t (long_line p ∷ []) []) e
+    ((f : Refusal) → r ≡ Err f → First f rs) → Every (Bounds p l) rs → cond t (sooner p r) r ≡ Err e → Holds p l (rs ++ cond t (long_line p ∷ []) []) e
 unfolding Holds Bounds
 limited_by true p l rs r e t none first all h = longer_by p l rs r e (below_true 1024 (length l.bytes) t) none first all h
 limited_by false p l rs r e t none first all h =
@@ -360,12 +362,12 @@ limited_by false p l rs r e t none first all h =
     subst (λ (xs : List Refusal). Holds p l xs e) (sym (append-nil rs)) (d.0, d.1, b.0, b.1)
 
 line_first : (p : LinePlace) (continued : Bool) (l : Line) (ls : List Line) (ts : Tokens) (e : Refusal) → one_line p continued l ls ts ≡ Err e →
-  Holds p l (bad_class p continued (class_of l.bytes) l ls ++ too_long p l) e
+    Holds p l (bad_class p continued (class_of l.bytes) l ls ++ too_long p l) e
 unfolding one_line within_limit too_long
 line_first p continued l ls ts e h =
     let class = class_of l.bytes in
     limited_by (nat_lt 1024 (length l.bytes)) p l (bad_class p continued class l ls) (of_class p continued class l ls ts) e refl
-        (λ us g. class_none p continued class l ls ts us g) (λ f g. class_first p continued class l ls ts f g) (class_bounds p continued class l ls refl) h
+    (λ us g. class_none p continued class l ls ts us g) (λ f g. class_first p continued class l ls ts f g) (class_bounds p continued class l ls refl) h
 
 line_none : (p : LinePlace) (continued : Bool) (l : Line) (ls : List Line) (ts us : Tokens) → one_line p continued l ls ts ≡ Ok us → bad_class p continued (class_of l.bytes) l ls ++ too_long p l ≡ []
 unfolding one_line too_long
@@ -389,8 +391,8 @@ lines_from p continued (l ∷ ls) =
     let rs = bad_class p continued class l ls in
     let qs = bad_lines (after p l) (leaves_open continued class l.bytes) ls in
     every_append (λ r. p.start ≤ r.at) (rs ++ too_long p l) qs
-        (every_append (λ r. p.start ≤ r.at) rs (too_long p l) (every_weaker (Bounds p l) (λ r. p.start ≤ r.at) rs (λ r g. g.0) (class_bounds p continued class l ls refl)) (long_from p l))
-        (from_lower p.start (after p l).start qs (omega arith) (lines_from (after p l) (leaves_open continued class l.bytes) ls))
+    (every_append (λ r. p.start ≤ r.at) rs (too_long p l) (every_weaker (Bounds p l) (λ r. p.start ≤ r.at) rs (λ r g. g.0) (class_bounds p continued class l ls refl)) (long_from p l))
+    (from_lower p.start (after p l).start qs (omega arith) (lines_from (after p l) (leaves_open continued class l.bytes) ls))
 
 lines_none : (p : LinePlace) (continued : Bool) (ls : List Line) (ts us : Tokens) → all_lines p continued ls ts ≡ Ok us → bad_lines p continued ls ≡ []
 unfolding all_lines bad_lines
@@ -401,27 +403,28 @@ lines_none p continued (l ∷ ls) ts us h =
     ap (λ rs. rs ++ bad_lines (after p l) next ls) (line_none p continued l ls ts read.0 read.1) ∙ lines_none (after p l) next ls read.0 us read.2
 
 lines_first_by : (p : LinePlace) (continued : Bool) (l : Line) (ls : List Line) (ts : Tokens) (e : Refusal) →
-  let next = leaves_open continued (class_of l.bytes) l.bytes in
-  let rs = bad_class p continued (class_of l.bytes) l ls ++ too_long p l in
-  let qs = bad_lines (after p l) next ls in
-  ((us : Tokens) → all_lines (after p l) next ls us ≡ Err e → Among e qs × Every (Decides e) qs) →
-  (one_line p continued l ls ts ≡ Err e) ⊎ ((us : Tokens) × (one_line p continued l ls ts ≡ Ok us) × (all_lines (after p l) next ls us ≡ Err e)) →
-  Among e (rs ++ qs) × Every (Decides e) (rs ++ qs)
+    let next = leaves_open continued (class_of l.bytes) l.bytes in
+    let rs = bad_class p continued (class_of l.bytes) l ls ++ too_long p l in
+    let qs = bad_lines (after p l) next ls in
+    ((us : Tokens) → all_lines (after p l) next ls us ≡ Err e → Among e qs × Every (Decides e) qs) →
+    (one_line p continued l ls ts ≡ Err e) ⊎ ((us : Tokens) × (one_line p continued l ls ts ≡ Ok us) × (all_lines (after p l) next ls us ≡ Err e)) →
+    Among e (rs ++ qs) × Every (Decides e) (rs ++ qs)
 unfolding Holds
 lines_first_by p continued l ls ts e rec (inl h) =
     let next = leaves_open continued (class_of l.bytes) l.bytes in
     let rs = bad_class p continued (class_of l.bytes) l ls ++ too_long p l in
     let qs = bad_lines (after p l) next ls in
-    let d = line_first p continued l ls ts e h in
-    (among_front e rs qs d.0,
-        every_append (Decides e) rs qs d.1 (every_weaker (λ r. (after p l).start ≤ r.at) (Decides e) qs (λ r g. inl (omega (arith, g, d.3))) (lines_from (after p l) next ls)))
+    let d = line_first p continued l ls ts e h in (
+      among_front e rs qs d.0,
+      every_append (Decides e) rs qs d.1 (every_weaker (λ r. (after p l).start ≤ r.at) (Decides e) qs (λ r g. inl (omega (arith, g, d.3))) (lines_from (after p l) next ls)),
+    )
 lines_first_by p continued l ls ts e rec (inr (us, g, h)) =
     let next = leaves_open continued (class_of l.bytes) l.bytes in
     let qs = bad_lines (after p l) next ls in
     subst (λ (xs : List Refusal). Among e (xs ++ qs) × Every (Decides e) (xs ++ qs)) (sym (line_none p continued l ls ts us g)) (rec us h)
 
 lines_first : (p : LinePlace) (continued : Bool) (ls : List Line) (ts : Tokens) (e : Refusal) → all_lines p continued ls ts ≡ Err e →
-  Among e (bad_lines p continued ls) × Every (Decides e) (bad_lines p continued ls)
+    Among e (bad_lines p continued ls) × Every (Decides e) (bad_lines p continued ls)
 unfolding all_lines bad_lines
 lines_first p continued [] ts e h = no_ok ts e h
 lines_first p continued (l ∷ ls) ts e h =
