@@ -1,10 +1,5 @@
 -- Lines on faults of data files.
-use Rattle.std.specs.Prelude.{ℕ, ◌≡◌, List, ◌++◌, codes, decimal, Result, Ok, Err, Vec}
-use Rattle.std.specs.declared.alloc.Global.{Global}
-use Rattle.std.specs.declared.alloc.AllocError.{AllocError}
-use Rattle.ending.specs.declared.status.Status.{Status}
-use Rattle.ending.specs.declared.early.Early.{Early}
-use Rattle.ending.specs.Stage.{IsSaid}
+use Rattle.std.specs.Prelude.{ℕ, List, ◌++◌, codes, decimal}
 
 abbrev pub file_line : List ℕ → List ℕ → List ℕ
 file_line file fault = file ++ codes " file: " ++ fault ++ codes "\n"
@@ -17,8 +12,3 @@ number_line file name fault at = file ++ codes " " ++ name ++ codes ": " ++ faul
 
 abbrev pub shape_line : List ℕ → List ℕ → ℕ → ℕ → List ℕ
 shape_line file name want got = file ++ codes " " ++ name ++ codes ": shape " ++ decimal want ++ codes " " ++ decimal got ++ codes "\n"
-
--- the answer with a text that was made, or want of memory
-abbrev pub IsSaidBy : Status → Result (Vec ℕ Global) AllocError → Early → Type 0
-IsSaidBy status (Ok text) early = IsSaid status text.items early
-IsSaidBy status (Err e) early = (text : List ℕ) → IsSaid status text early

@@ -1,7 +1,10 @@
 //! The stages of a command that read its data: the data file, the seed file, and the places that they take.
 #![tactic(auto)]
 
+mod data;
+mod fault;
 mod layout;
 mod line;
 
+pub use data::{load_args, load_seed};
 pub use layout::lay_out;

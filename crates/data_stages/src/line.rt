@@ -8,18 +8,6 @@ use fl_base::Name;
 use itoa::Buffer;
 use std::alloc::{AllocError, Global};
 
-fn bad_data(text: Result<Vec<u8>, AllocError>) -> Early
-    ensures { spec.IsSaidBy BadData text result }
-{
-    match text {
-        Ok(text) => Early::Said(Due {
-            status: Status::BadData,
-            text,
-        }),
-        Err(_) => Early::Memory,
-    }
-}
-
 fn file_text(alloc: Global, file: &[u8], fault: &[u8]) -> Result<Vec<u8>, AllocError>
     ensures { IfOk result (λ text. text.items ≡ spec.file_line file.now fault.now) }
 {
@@ -34,7 +22,13 @@ fn file_text(alloc: Global, file: &[u8], fault: &[u8]) -> Result<Vec<u8>, AllocE
 pub(crate) fn file_fault(alloc: Global, file: &[u8], fault: &[u8]) -> Early
     ensures { IsSaid BadData (spec.file_line file.now fault.now) result }
 {
-    bad_data(file_text(alloc, file, fault))
+    match file_text(alloc, file, fault) {
+        Ok(text) => Early::Said(Due {
+            status: Status::BadData,
+            text,
+        }),
+        Err(_) => Early::Memory,
+    }
 }
 
 fn name_text(alloc: Global, file: &[u8], name: &Name, fault: &[u8]) -> Result<Vec<u8>, AllocError>
@@ -53,10 +47,22 @@ fn name_text(alloc: Global, file: &[u8], name: &Name, fault: &[u8]) -> Result<Ve
 pub(crate) fn name_fault(alloc: Global, file: &[u8], name: &Name, fault: &[u8]) -> Early
     ensures { IsSaid BadData (spec.name_line file.now name.now fault.now) result }
 {
-    bad_data(name_text(alloc, file, name, fault))
+    match name_text(alloc, file, name, fault) {
+        Ok(text) => Early::Said(Due {
+            status: Status::BadData,
+            text,
+        }),
+        Err(_) => Early::Memory,
+    }
 }
 
-fn number_text(alloc: Global, file: &[u8], name: &Name, fault: &[u8], at: u64) -> Result<Vec<u8>, AllocError>
+fn number_text(
+    alloc: Global,
+    file: &[u8],
+    name: &Name,
+    fault: &[u8],
+    at: u64,
+) -> Result<Vec<u8>, AllocError>
     ensures { IfOk result (λ text. text.items ≡ spec.number_line file.now name.now fault.now at) }
 {
     let mut buffer = Buffer::new();
@@ -75,10 +81,22 @@ fn number_text(alloc: Global, file: &[u8], name: &Name, fault: &[u8], at: u64) -
 pub(crate) fn number_fault(alloc: Global, file: &[u8], name: &Name, fault: &[u8], at: u64) -> Early
     ensures { IsSaid BadData (spec.number_line file.now name.now fault.now at) result }
 {
-    bad_data(number_text(alloc, file, name, fault, at))
+    match number_text(alloc, file, name, fault, at) {
+        Ok(text) => Early::Said(Due {
+            status: Status::BadData,
+            text,
+        }),
+        Err(_) => Early::Memory,
+    }
 }
 
-fn shape_text(alloc: Global, file: &[u8], name: &Name, want: u64, got: u64) -> Result<Vec<u8>, AllocError>
+fn shape_text(
+    alloc: Global,
+    file: &[u8],
+    name: &Name,
+    want: u64,
+    got: u64,
+) -> Result<Vec<u8>, AllocError>
     ensures { IfOk result (λ text. text.items ≡ spec.shape_line file.now name.now want got) }
 {
     let mut buffer = Buffer::new();
@@ -97,5 +115,11 @@ fn shape_text(alloc: Global, file: &[u8], name: &Name, want: u64, got: u64) -> R
 pub(crate) fn shape_fault(alloc: Global, file: &[u8], name: &Name, want: u64, got: u64) -> Early
     ensures { IsSaid BadData (spec.shape_line file.now name.now want got) result }
 {
-    bad_data(shape_text(alloc, file, name, want, got))
+    match shape_text(alloc, file, name, want, got) {
+        Ok(text) => Early::Said(Due {
+            status: Status::BadData,
+            text,
+        }),
+        Err(_) => Early::Memory,
+    }
 }

@@ -4,3 +4,6 @@ pub mod PieceLaws
 pub mod ReadLaws
 pub mod PieceSpelling
 pub mod TextSpelling
+pub mod Placing
+pub mod Refusing
+pub mod Promises

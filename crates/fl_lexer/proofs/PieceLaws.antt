@@ -16,7 +16,7 @@ and_second : (a b : Bool) → (a && b) ≡ true → b ≡ true
 and_second true b h = h
 and_second false b h = absurd (let e : false ≡ true = h in cc)
 
-begins_some : (test : ℕ → Bool) (bs : List ℕ) → begins test bs ≡ true → 0 < length bs
+pub begins_some : (test : ℕ → Bool) (bs : List ℕ) → begins test bs ≡ true → 0 < length bs
 begins_some test [] h = absurd (let e : false ≡ true = h in cc)
 begins_some test (b ∷ bs) h = omega arith
 

@@ -63,7 +63,7 @@ within_true : (n m : ℕ) → n ≤ m → nat_le n m ≡ true
 within_true n m h = grind (arith, nat_tests)
 
 name_again : (b : ℕ) (bs rest : List ℕ) → is_letter b ≡ true → Each is_word bs → suc (length bs) ≤ 63 → begins is_word rest ≡ false →
-  piece_of (b ∷ bs ++ rest) ≡ piece (suc (length bs)) (Lexical Word)
+    piece_of (b ∷ bs ++ rest) ≡ piece (suc (length bs)) (Lexical Word)
 unfolding piece_of
 name_again b bs rest l e short h =
     let len : 1 + prefix_len is_word (bs ++ rest) ≡ suc (length bs) = omega (arith, each_len is_word bs rest e h) in
@@ -80,7 +80,7 @@ suffix_again (Some k) es rest (inr i) e =
     subst (λ (n : ℕ). at es n) (sym i.0) (subst (λ (fs : List ℕ). at fs 8) (sym i.1) (refl, refl, refl))
 
 number_is : (s : Option ℕ) (ds es rest : List ℕ) → Each is_digit ds → IsSuffix s es → EndsNumber s rest → number_from 0 ds ≤ 9223372036854775807 →
-  number_of (ds ++ (es ++ rest)) ≡ piece (length (ds ++ es)) (Lexical (Number (number_from 0 ds) s))
+    number_of (ds ++ (es ++ rest)) ≡ piece (length (ds ++ es)) (Lexical (Number (number_from 0 ds) s))
 number_is s ds es rest e i n small =
     let q = suffix_again s es rest i n in
     let len : prefix_len is_digit (ds ++ (es ++ rest)) ≡ length ds = each_len is_digit ds (es ++ rest) e q.1 in
@@ -128,7 +128,7 @@ word_again [] rest i short h = absurd i
 word_again (b ∷ bs) rest i short h = name_again b bs rest i.0 i.1 short h
 
 numeral_again : (s : Option ℕ) (ds es rest : List ℕ) → IsDigits ds → IsSuffix s es → EndsNumber s rest → number_from 0 ds ≤ 9223372036854775807 →
-  piece_of ((ds ++ es) ++ rest) ≡ piece (length (ds ++ es)) (Lexical (Number (number_from 0 ds) s))
+    piece_of ((ds ++ es) ++ rest) ≡ piece (length (ds ++ es)) (Lexical (Number (number_from 0 ds) s))
 numeral_again s [] es rest d i n small = absurd d
 numeral_again s (b ∷ ds) es rest d i n small =
     ap piece_of (append_assoc (b ∷ ds) es rest) ∙ digits_again b (ds ++ (es ++ rest)) d.0 ∙ number_is s (b ∷ ds) es rest d i n small
@@ -149,7 +149,7 @@ lexical_again Word bs rest i = word_again bs rest i.0 i.1 i.2
 lexical_again (Number v s) bs rest ((ds, es, e, d, f, value, small), n) =
     let less : number_from 0 ds ≤ 9223372036854775807 = subst (λ (k : ℕ). k ≤ 9223372036854775807) value small in
     subst (λ (cs : List ℕ). piece_of (cs ++ rest) ≡ piece (length cs) (Lexical (Number v s))) (sym e)
-        (numeral_again s ds es rest d f n less ∙ ap (λ (k : ℕ). piece (length (ds ++ es)) (Lexical (Number k s))) (sym value))
+    (numeral_again s ds es rest d f n less ∙ ap (λ (k : ℕ). piece (length (ds ++ es)) (Lexical (Number k s))) (sym value))
 lexical_again Mark bs rest i = mark_again bs rest i
 lexical_again Dots bs rest (w, e, l, d) = subst (λ (cs : List ℕ). piece_of (cs ++ rest) ≡ piece (length cs) (Lexical Dots)) (sym e) (dotted_again w rest l d)
 lexical_again Sentinel bs rest i = absurd i
@@ -184,9 +184,9 @@ pub take_both : (n k : ℕ) (bs : List ℕ) → take (n + k) bs ≡ take n bs ++
 take_both zero k bs = let e : 0 + k ≡ k = omega arith in ap (λ m. take m bs) e
 take_both (suc n) k [] = let e : suc n + k ≡ suc (n + k) = omega arith in ap (λ m. take m []) e ∙ nothing k
   where
-  nothing : (k : ℕ) → ◌≡◌ {A = List ℕ} [] (take k [])
-  nothing zero = refl
-  nothing (suc k) = refl
+    nothing : (k : ℕ) → ◌≡◌ {A = List ℕ} [] (take k [])
+    nothing zero = refl
+    nothing (suc k) = refl
 take_both (suc n) k (b ∷ bs) = let e : suc n + k ≡ suc (n + k) = omega arith in ap (λ m. take m (b ∷ bs)) e ∙ ap (λ cs. b ∷ cs) (take_both n k bs)
 
 pub drop_both : (n k : ℕ) (bs : List ℕ) → drop (n + k) bs ≡ drop k (drop n bs)
@@ -212,8 +212,8 @@ name_found b bs h =
     let one : suc n ≡ 1 + n = omega arith in
     chosen (nat_le (1 + n) 63) (Lexical Word) LongName (λ (k : PieceKind). Sound k (take (1 + n) (b ∷ bs)) (drop (1 + n) (b ∷ bs)))
     (λ short.
-        let less : suc (length (take n bs)) ≤ 63 = omega (arith, true_within (1 + n) 63 short, length-take-le n bs (prefix_len-le-length is_word bs)) in
-        subst (λ (k : ℕ). IsLexical Word (take k (b ∷ bs)) (drop k (b ∷ bs))) one ((h, each_front is_word bs), less, ends_front is_word bs))
+    let less : suc (length (take n bs)) ≤ 63 = omega (arith, true_within (1 + n) 63 short, length-take-le n bs (prefix_len-le-length is_word bs)) in
+    subst (λ (k : ℕ). IsLexical Word (take k (b ∷ bs)) (drop k (b ∷ bs))) one ((h, each_front is_word bs), less, ends_front is_word bs))
     (λ _. tt)
 
 or_true : (s t : Bool) → (s || t) ≡ true → (s ≡ true) ⊎ (t ≡ true)
@@ -260,9 +260,10 @@ number_found b bs h =
     let s = suffix_of (drop n all) in
     let k = n + suffix_len_of s in
     chosen (nat_le (number_from 0 (take n all)) 9223372036854775807) (Lexical (Number (number_from 0 (take n all)) s)) WideLiteral (λ (kind : PieceKind). Sound kind (take k all) (drop k all))
-    (λ small.
-        ((take n all, take (suffix_len_of s) (drop n all), take_both n (suffix_len_of s) all, digits_found b bs h, suffix_found (drop n all), refl, true_within _ _ small),
-        subst (λ (r : List ℕ). EndsNumber s r) (sym (drop_both n (suffix_len_of s) all)) (ends_by (drop n all) s (ends_front is_digit all) refl)))
+    (λ small. (
+      (take n all, take (suffix_len_of s) (drop n all), take_both n (suffix_len_of s) all, digits_found b bs h, suffix_found (drop n all), refl, true_within _ _ small),
+      subst (λ (r : List ℕ). EndsNumber s r) (sym (drop_both n (suffix_len_of s) all)) (ends_by (drop n all) s (ends_front is_digit all) refl),
+    ))
     (λ _. tt)
 
 begins_one : (k : ℕ) (rs : List ℕ) → begins (λ b. eqb b k) rs ≡ true → take 1 rs ≡ k ∷ []
@@ -276,10 +277,10 @@ dots_found b bs h =
     let two : n + 2 ≡ suc (n + 1) = omega arith in
     chosen (is_dot_word w && begins (λ c. eqb c 46) (drop n bs)) (piece (n + 2) (Lexical Dots)) (piece 1 BadByte) (SoundAt (b ∷ bs))
     (λ t.
-        let bytes : take (n + 2) (b ∷ bs) ≡ 46 ∷ w ++ 46 ∷ [] =
-            ap (λ k. take k (b ∷ bs)) two ∙ ap (λ c. c ∷ take (n + 1) bs) (same_byte b 46 h)
-            ∙ ap (λ cs. 46 ∷ cs) (take_both n 1 bs ∙ ap (λ cs. w ++ cs) (begins_one 46 (drop n bs) (and_second (is_dot_word w) _ t))) in
-        (w, bytes, each_front is_letter bs, and_first (is_dot_word w) _ t))
+    let bytes : take (n + 2) (b ∷ bs) ≡ 46 ∷ w ++ 46 ∷ [] =
+    ap (λ k. take k (b ∷ bs)) two ∙ ap (λ c. c ∷ take (n + 1) bs) (same_byte b 46 h)
+    ∙ ap (λ cs. 46 ∷ cs) (take_both n 1 bs ∙ ap (λ cs. w ++ cs) (begins_one 46 (drop n bs) (and_second (is_dot_word w) _ t))) in
+    (w, bytes, each_front is_letter bs, and_first (is_dot_word w) _ t))
     (λ _. tt)
 
 two_found : (b : ℕ) (bs : List ℕ) → is_mark b ≡ true → begins (is_pair b) bs ≡ true → Sound (Lexical Mark) (take 2 (b ∷ bs)) (drop 2 (b ∷ bs))

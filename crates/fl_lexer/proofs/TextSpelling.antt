@@ -63,7 +63,7 @@ before_one n h = omega arith
 
 -- one more piece before those found
 more_found : (p : LinePlace) (at n : ℕ) (b : ℕ) (bs : List ℕ) (ts us : Tokens) (kind : PieceKind) → 0 < n → n ≤ suc (length bs) →
-  IsPiece kind (take n (b ∷ bs)) (drop n (b ∷ bs)) → Found p (at + 1 + (n - 1)) (drop (n - 1) bs) (ts ++ token_of p at n kind) us → Found p (at + 0) (b ∷ bs) ts us
+    IsPiece kind (take n (b ∷ bs)) (drop n (b ∷ bs)) → Found p (at + 1 + (n - 1)) (drop (n - 1) bs) (ts ++ token_of p at n kind) us → Found p (at + 0) (b ∷ bs) ts us
 more_found p at n b bs ts us kind some within i (xs, e, a, u) =
     let all = b ∷ bs in
     let front = take n all in
@@ -73,16 +73,19 @@ more_found p at n b bs ts us kind some within i (xs, e, a, u) =
     let none : at ≡ at + 0 = omega arith in
     let behind : at + 1 + (n - 1) ≡ at + n = omega arith in
     let tokens : us ≡ ts ++ (token_of p at n kind ++ tokens_of p (at + n) xs) =
-        u ∙ ap (λ m. (ts ++ token_of p at n kind) ++ tokens_of p m xs) behind ∙ append_assoc ts (token_of p at n kind) (tokens_of p (at + n) xs) in
+    u ∙ ap (λ m. (ts ++ token_of p at n kind) ++ tokens_of p m xs) behind ∙ append_assoc ts (token_of p at n kind) (tokens_of p (at + n) xs) in
     let sized : us ≡ ts ++ (token_of p at (length front) kind ++ tokens_of p (at + length front) xs) =
-        subst (λ (m : ℕ). us ≡ ts ++ (token_of p at m kind ++ tokens_of p (at + m) xs)) (sym size) tokens in
-    (spelt kind front ∷ xs, whole, (subst (λ (r : List ℕ). IsPiece kind front r) rest i, a),
-        subst (λ (m : ℕ). us ≡ ts ++ tokens_of p m (spelt kind front ∷ xs)) none sized)
+    subst (λ (m : ℕ). us ≡ ts ++ (token_of p at m kind ++ tokens_of p (at + m) xs)) (sym size) tokens in (
+      spelt kind front ∷ xs,
+      whole,
+      (subst (λ (r : List ℕ). IsPiece kind front r) rest i, a),
+      subst (λ (m : ℕ). us ≡ ts ++ tokens_of p m (spelt kind front ∷ xs)) none sized,
+    )
 
 by_kind : (p : LinePlace) (at n : ℕ) (b : ℕ) (bs : List ℕ) (ts us : Tokens) (kind : PieceKind) → 0 < n → n ≤ suc (length bs) →
-  Sound kind (take n (b ∷ bs)) (drop n (b ∷ bs)) →
-  ((vs : Tokens) → pieces p (n - 1) (at + 1) bs vs ≡ Ok us → Found p (at + 1 + (n - 1)) (drop (n - 1) bs) vs us) →
-  (with_piece p at ts n kind >>= pieces p (n - 1) (at + 1) bs) ≡ Ok us → Found p (at + 0) (b ∷ bs) ts us
+    Sound kind (take n (b ∷ bs)) (drop n (b ∷ bs)) →
+    ((vs : Tokens) → pieces p (n - 1) (at + 1) bs vs ≡ Ok us → Found p (at + 1 + (n - 1)) (drop (n - 1) bs) vs us) →
+    (with_piece p at ts n kind >>= pieces p (n - 1) (at + 1) bs) ≡ Ok us → Found p (at + 0) (b ∷ bs) ts us
 by_kind p at n b bs ts us Blank some within i rec h =
     more_found p at n b bs ts us Blank some within i (subst (λ (vs : Tokens). Found p (at + 1 + (n - 1)) (drop (n - 1) bs) vs us) (sym (append-nil ts)) (rec ts h))
 by_kind p at n b bs ts us (Lexical kind) some within i rec h = more_found p at n b bs ts us (Lexical kind) some within i (rec (ts ++ token p at n kind ∷ []) h)
@@ -104,50 +107,52 @@ pieces_found p (suc n) at (b ∷ bs) ts us h =
     subst (λ (m : ℕ). Found p m (drop n bs) ts us) e (pieces_found p n (at + 1) bs ts us h)
 
 goes_found : (c : Bool) (class : LineClass) (ls : List Line) (ts us : Tokens) (e : Refusal) → continues class (next_class ls) ≡ c →
-  cond c (Ok ts) (Err e) ≡ Ok us → (continues class (next_class ls) ≡ true) × (ts ≡ us)
+    cond c (Ok ts) (Err e) ≡ Ok us → (continues class (next_class ls) ≡ true) × (ts ≡ us)
 goes_found true class ls ts us e g h = (g, ok_same ts us h)
 goes_found false class ls ts us e g h = no_err e us h
 
 ended_by : (t : Bool) (p : LinePlace) (class : LineClass) (l : Line) (ls : List Line) (ts us : Tokens) (e : Refusal) →
-  cond t (cond (continues class (next_class ls)) (Ok ts) (Err e)) (Ok (ts ++ line_end p l ∷ [])) ≡ Ok us → Goes t class ls × (us ≡ ts ++ end_of t p l)
+    cond t (cond (continues class (next_class ls)) (Ok ts) (Err e)) (Ok (ts ++ line_end p l ∷ [])) ≡ Ok us → Goes t class ls × (us ≡ ts ++ end_of t p l)
 ended_by true p class l ls ts us e h = let g = goes_found (continues class (next_class ls)) class ls ts us e refl h in (g.0, sym g.1 ∙ sym (append-nil ts))
 ended_by false p class l ls ts us e h = (tt, sym (ok_same _ us h))
 
 ended_found : (p : LinePlace) (class : LineClass) (from : ℕ) (l : Line) (ls : List Line) (ts us : Tokens) → ended p class from l ls ts ≡ Ok us →
-  Goes (goes_on (text_from from l.bytes)) class ls × (us ≡ ts ++ end_of (goes_on (text_from from l.bytes)) p l)
+    Goes (goes_on (text_from from l.bytes)) class ls × (us ≡ ts ++ end_of (goes_on (text_from from l.bytes)) p l)
 unfolding ended
 ended_found p class from l ls ts us h = ended_by (goes_on (text_from from l.bytes)) p class l ls ts us _ h
 
 ended_again_by : (t : Bool) (p : LinePlace) (class : LineClass) (l : Line) (ls : List Line) (ts : Tokens) (e : Refusal) → Goes t class ls →
-  cond t (cond (continues class (next_class ls)) (Ok ts) (Err e)) (Ok (ts ++ line_end p l ∷ [])) ≡ Ok (ts ++ end_of t p l)
+    cond t (cond (continues class (next_class ls)) (Ok ts) (Err e)) (Ok (ts ++ line_end p l ∷ [])) ≡ Ok (ts ++ end_of t p l)
 ended_again_by true p class l ls ts e g = ap (λ c. cond c (Ok ts) (Err e)) g ∙ ap (λ us. Ok us) (sym (append-nil ts))
 ended_again_by false p class l ls ts e g = refl
 
 ended_again : (p : LinePlace) (class : LineClass) (from : ℕ) (l : Line) (ls : List Line) (ts : Tokens) → Goes (goes_on (text_from from l.bytes)) class ls →
-  ended p class from l ls ts ≡ Ok (ts ++ end_of (goes_on (text_from from l.bytes)) p l)
+    ended p class from l ls ts ≡ Ok (ts ++ end_of (goes_on (text_from from l.bytes)) p l)
 unfolding ended
 ended_again p class from l ls ts g = ended_again_by (goes_on (text_from from l.bytes)) p class l ls ts _ g
 
 text_found : (p : LinePlace) (class : LineClass) (from skipped : ℕ) (l : Line) (ls : List Line) (ts us : Tokens) → text p class from skipped l ls ts ≡ Ok us →
-  (vs : Tokens) × SpellsText p class from skipped l ls vs × (us ≡ ts ++ vs)
+    (vs : Tokens) × SpellsText p class from skipped l ls vs × (us ≡ ts ++ vs)
 unfolding text
 text_found p class from skipped l ls ts us h =
     let bytes = text_from from l.bytes in
     let read = bind_ok (pieces p skipped from (body_of bytes) ts) (ended p class from l ls) us h in
     let found = pieces_found p skipped from (body_of bytes) ts read.0 read.1 in
-    let end = ended_found p class from l ls read.0 us read.2 in
-    (tokens_of p (from + skipped) found.0 ++ end_of (goes_on bytes) p l, (found.0, found.1, found.2, end.0, refl),
-        end.1 ∙ ap (λ vs. vs ++ end_of (goes_on bytes) p l) found.3 ∙ append_assoc ts (tokens_of p (from + skipped) found.0) (end_of (goes_on bytes) p l))
+    let end = ended_found p class from l ls read.0 us read.2 in (
+      tokens_of p (from + skipped) found.0 ++ end_of (goes_on bytes) p l,
+      (found.0, found.1, found.2, end.0, refl),
+      end.1 ∙ ap (λ vs. vs ++ end_of (goes_on bytes) p l) found.3 ∙ append_assoc ts (tokens_of p (from + skipped) found.0) (end_of (goes_on bytes) p l),
+    )
 
 text_again : (p : LinePlace) (class : LineClass) (from skipped : ℕ) (l : Line) (ls : List Line) (ts vs : Tokens) → SpellsText p class from skipped l ls vs →
-  text p class from skipped l ls ts ≡ Ok (ts ++ vs)
+    text p class from skipped l ls ts ≡ Ok (ts ++ vs)
 unfolding text
 text_again p class from skipped l ls ts vs (xs, e, a, g, u) =
     let bytes = text_from from l.bytes in
     let mid = tokens_of p (from + skipped) xs in
     let end = end_of (goes_on bytes) p l in
     ap (λ r. r >>= ended p class from l ls)
-        (pieces-skipped p skipped from (body_of bytes) ts ∙ ap (λ bs. pieces p 0 (from + skipped) bs ts) e ∙ pieces_again p (from + skipped) xs ts a)
+    (pieces-skipped p skipped from (body_of bytes) ts ∙ ap (λ bs. pieces p 0 (from + skipped) bs ts) e ∙ pieces_again p (from + skipped) xs ts a)
     ∙ ended_again p class from l ls (ts ++ mid) g
     ∙ ap (λ us. Ok us) (append_assoc ts mid end ∙ ap (λ us. ts ++ us) (sym u))
 
@@ -155,12 +160,12 @@ opened : Bool → LinePlace → ℕ → Tokens
 opened continued p from = cond continued [] (token p from 5 Sentinel ∷ [])
 
 sentinel_found : (continued : Bool) (p : LinePlace) (from : ℕ) (ts : Tokens) →
-  cond continued ts (ts ++ token p from 5 Sentinel ∷ []) ≡ ts ++ cond continued [] (token p from 5 Sentinel ∷ [])
+    cond continued ts (ts ++ token p from 5 Sentinel ∷ []) ≡ ts ++ cond continued [] (token p from 5 Sentinel ∷ [])
 sentinel_found true p from ts = sym (append-nil ts)
 sentinel_found false p from ts = refl
 
 class_found : (p : LinePlace) (continued : Bool) (class : LineClass) (l : Line) (ls : List Line) (ts us : Tokens) → of_class p continued class l ls ts ≡ Ok us →
-  (vs : Tokens) × SpellsClass p continued class l ls vs × (us ≡ ts ++ vs)
+    (vs : Tokens) × SpellsClass p continued class l ls vs × (us ≡ ts ++ vs)
 unfolding of_class directive
 class_found p continued Empty l ls ts us h = ([], refl, sym (ok_same ts us h) ∙ sym (append-nil ts))
 class_found p continued Conditional l ls ts us h = no_err _ us h
@@ -174,7 +179,7 @@ class_found p continued Directive l ls ts us h =
     (first ++ found.0, (found.0, found.1, refl), found.2 ∙ ap (λ vs. vs ++ found.0) (sentinel_found continued p from ts) ∙ append_assoc ts first found.0)
 
 class_again : (p : LinePlace) (continued : Bool) (class : LineClass) (l : Line) (ls : List Line) (ts vs : Tokens) → SpellsClass p continued class l ls vs →
-  of_class p continued class l ls ts ≡ Ok (ts ++ vs)
+    of_class p continued class l ls ts ≡ Ok (ts ++ vs)
 unfolding of_class directive
 class_again p continued Empty l ls ts vs e = ap (λ us. Ok us) (sym (append-nil ts) ∙ ap (λ us. ts ++ us) (sym e))
 class_again p continued Conditional l ls ts vs i = absurd i
@@ -201,10 +206,10 @@ limit_by false p r us h = (refl, h)
 not_above : (n m : ℕ) → nat_lt m n ≡ false → n ≤ m
 not_above n m h = grind (arith, nat_tests)
 
-not_below : (n m : ℕ) → n ≤ m → nat_lt m n ≡ false
+pub not_below : (n m : ℕ) → n ≤ m → nat_lt m n ≡ false
 not_below n m h = grind (arith, nat_tests)
 
-limit_found : (p : LinePlace) (l : Line) (r : Reading) (us : Tokens) → within_limit p l r ≡ Ok us → (length l.bytes ≤ 1024) × (r ≡ Ok us)
+pub limit_found : (p : LinePlace) (l : Line) (r : Reading) (us : Tokens) → within_limit p l r ≡ Ok us → (length l.bytes ≤ 1024) × (r ≡ Ok us)
 unfolding within_limit
 limit_found p l r us h = let g = limit_by (nat_lt 1024 (length l.bytes)) p r us h in (not_above (length l.bytes) 1024 g.0, g.1)
 
@@ -213,7 +218,7 @@ unfolding within_limit
 limit_again p l r h = ap (λ t. cond t (sooner p r) r) (not_below (length l.bytes) 1024 h)
 
 pub lines_found : (p : LinePlace) (continued : Bool) (ls : List Line) (ts us : Tokens) → all_lines p continued ls ts ≡ Ok us →
-  (vs : Tokens) × SpellLines p continued ls vs × (us ≡ ts ++ vs)
+    (vs : Tokens) × SpellLines p continued ls vs × (us ≡ ts ++ vs)
 unfolding all_lines one_line
 lines_found p continued [] ts us h = ([], refl, sym (ok_same ts us h) ∙ sym (append-nil ts))
 lines_found p continued (l ∷ ls) ts us h =
@@ -230,7 +235,7 @@ lines_again p continued [] ts us e = ap (λ vs. Ok vs) (sym (append-nil ts) ∙ 
 lines_again p continued (l ∷ ls) ts us (vs, ws, limit, i, rest, e) =
     let next = leaves_open continued (class_of l.bytes) l.bytes in
     ap (λ r. r >>= all_lines (after p l) next ls)
-        (limit_again p l (of_class p continued (class_of l.bytes) l ls ts) limit ∙ class_again p continued (class_of l.bytes) l ls ts vs i)
+    (limit_again p l (of_class p continued (class_of l.bytes) l ls ts) limit ∙ class_again p continued (class_of l.bytes) l ls ts vs i)
     ∙ lines_again (after p l) next ls (ts ++ vs) ws rest
     ∙ ap (λ xs. Ok xs) (append_assoc ts vs ws ∙ ap (λ xs. ts ++ xs) (sym e))
 

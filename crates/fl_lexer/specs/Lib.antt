@@ -3,3 +3,5 @@ pub mod Pieces
 pub mod Lines
 pub mod Reading
 pub mod Spelling
+pub mod Placement
+pub mod Refusals

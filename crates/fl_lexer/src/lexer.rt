@@ -1,8 +1,12 @@
 //! Reading a text, line by line and piece by piece.
 
-ghost use Rattle.std.specs.Prelude.{◌≡◌, ◌==◌, ◌&&◌, if◌then◌else◌, ◌<◌, ◌≤◌, ◌+◌, ◌-◌, ◌^◌, [], ◌∷◌, ◌++◌, length, drop, false};
+ghost use Rattle.std.specs.Prelude.{◌≡◌, ◌≢◌, ◌==◌, ◌&&◌, if◌then◌else◌, ◌<◌, ◌≤◌, ◌+◌, ◌-◌, ◌^◌, [], ◌∷◌, ◌++◌, length, drop, false, IfOk, IfErr};
 ghost use Rattle.fl_base.specs.Finds.{Finds};
+ghost use Rattle.tokens.specs.Spans.{Are_spans};
 ghost use Rattle.fl_lexer.specs.Reading as spec;
+ghost use Rattle.fl_lexer.specs.Spelling.{Spells};
+ghost use Rattle.fl_lexer.specs.Placement.{InOrder};
+ghost use Rattle.fl_lexer.specs.Refusals.{refusals, IsFirst};
 ghost use Rattle.fl_lexer.specs.Reading.{Reads, Gives};
 ghost use Rattle.fl_lexer.specs.Bytes.{is_blank, begins};
 ghost use Rattle.std.specs.List.{prefix_len};
@@ -295,17 +299,37 @@ fn all_lines(alloc: Global, text: &[u8]) -> Result<Vec<Token>, Halt>
     Ok(tokens)
 }
 
-/// The tokens of a text, or the first place at which it is refused.
 #[tactic(auto, unfolding(crate::specs::Reading::lexed))]
-pub fn lex(alloc: Global, text: &[u8]) -> Result<Vec<Token>, LexError>
+fn tokens_of(alloc: Global, text: &[u8]) -> Result<Vec<Token>, LexError>
     requires { length text.now < u32.MAX }
-    ensures exact { Finds (λ v. v.items) LexError.Memory (spec.lexed text.now) result }
+    ensures { Finds (λ v. v.items) LexError.Memory (spec.lexed text.now) result }
 {
     match all_lines(alloc, text) {
         Ok(tokens) => Ok(tokens),
         Err(Halt::Memory) => Err(LexError::Memory),
         Err(Halt::Refused(refusal)) => Err(refusal.error),
     }
+}
+
+/// The tokens of a text, or the first place at which it is refused. Names keep their letters. A token lies on
+/// one line (Fortran 2018, 6.3.2.4): a name or number that is divided by `&` is two.
+pub fn lex(alloc: Global, text: &[u8]) -> Result<Vec<Token>, LexError>
+    requires { length text.now < u32.MAX }
+    ensures exact { Finds (λ v. v.items) LexError.Memory (spec.lexed text.now) result }
+
+    // What is read is spelled so, and what is spelled so is read.
+    ensures found { IfOk result (λ v. Spells text.now v.items) }
+    ensures only { (ts : spec.Tokens) → Spells text.now ts → Finds (λ v. v.items) LexError.Memory (Ok ts) result }
+
+    // It is read exactly where no rule refuses anything in it. Else the first place that one refuses decides.
+    ensures accepted { IfOk result (λ _. refusals text.now ≡ []) }
+    ensures refused { IfErr result (λ e. e ≢ LexError.Memory → IsFirst (refusals text.now) e) }
+
+    // Each token is its slice of the text, in order.
+    ensures in_order { IfOk result (λ v. InOrder text.now 0 v.items) }
+    ensures spans { IfOk result (λ v. Are_spans text.now v.items) }
+{
+    tokens_of(alloc, text)
 }
 
 #[cfg(test)]

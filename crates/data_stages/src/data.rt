@@ -1,0 +1,69 @@
+ghost use Rattle.std.specs.Prelude.{codes};
+ghost use Rattle.ending.specs.Stage.{IsPart, IsStage};
+ghost use Rattle.data_stages.specs.Files.{args_part, seed_part, args_stage, seed_stage};
+
+use crate::fault::data_refused;
+use data_io::{read_args, read_seed};
+use ending::{Early, take_file};
+use fl_base::Name;
+use fl_types::Typed;
+use outside::Folder;
+use std::alloc::Global;
+use store_core::{Args, Weights};
+
+/// The most bytes of a data file or a seed file.
+const MOST: u64 = 67_108_864;
+
+fn args_of(alloc: Global, bytes: &[u8], typed: &Typed) -> Result<Args, Early>
+    ensures { IsPart (λ args. args) (args_part typed.now bytes.now) result }
+{
+    match read_args(alloc, bytes, typed) {
+        Ok(args) => Ok(args),
+        Err(error) => Err(data_refused(alloc, b"data", error)),
+    }
+}
+
+/// The arguments that the data file gives.
+pub fn load_args<F: Folder>(
+    alloc: Global,
+    folder: &mut F,
+    file: &Name,
+    typed: &Typed,
+) -> Result<Args, Early>
+    ensures { IsStage (λ args. args) (F.contents folder.old) (F.contents folder.new)
+        (F.faults folder.old) (F.faults folder.new) (args_stage file.now typed.now) result }
+{
+    let bytes = take_file(alloc, folder, file, MOST, b"limit data 67108864\n")?;
+    args_of(alloc, &bytes, typed)
+}
+
+fn seed_of(
+    alloc: Global,
+    bytes: &[u8],
+    typed: &Typed,
+    args: &Args,
+    of: &[Name],
+) -> Result<Weights, Early>
+    ensures { IsPart (λ weights. weights) (seed_part typed.now args.now of.now bytes.now) result }
+{
+    match read_seed(alloc, bytes, typed, args, of) {
+        Ok(weights) => Ok(weights),
+        Err(error) => Err(data_refused(alloc, b"seed", error)),
+    }
+}
+
+/// The weights that the seed file gives the names of `of`.
+pub fn load_seed<F: Folder>(
+    alloc: Global,
+    folder: &mut F,
+    file: &Name,
+    typed: &Typed,
+    args: &Args,
+    of: &[Name],
+) -> Result<Weights, Early>
+    ensures { IsStage (λ weights. weights) (F.contents folder.old) (F.contents folder.new)
+        (F.faults folder.old) (F.faults folder.new) (seed_stage file.now typed.now args.now of.now) result }
+{
+    let bytes = take_file(alloc, folder, file, MOST, b"limit data 67108864\n")?;
+    seed_of(alloc, &bytes, typed, args, of)
+}
