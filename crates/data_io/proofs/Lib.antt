@@ -3,3 +3,4 @@ pub mod Extras
 pub mod First
 pub mod Texts
 pub mod Whole
+pub mod Small
