@@ -96,3 +96,12 @@ abbrev mutual
   pub are_placed : List Shape → Expressions → Bool
   are_placed shapes no_expressions = true
   are_placed shapes (expression a s) = is_placed shapes a && are_placed shapes s
+
+abbrev pub is_designator_placed : List Shape → Designator → Bool
+is_designator_placed shapes p = is_some (slot_of shapes p.name) && are_placed shapes p.subscripts
+
+abbrev pub is_condition_placed : List Shape → Condition → Bool
+is_condition_placed shapes (relation o a b) = is_placed shapes a && is_placed shapes b
+is_condition_placed shapes (negation a) = is_condition_placed shapes a
+is_condition_placed shapes (conjunction a b) = is_condition_placed shapes a && is_condition_placed shapes b
+is_condition_placed shapes (disjunction a b) = is_condition_placed shapes a && is_condition_placed shapes b

@@ -9,3 +9,4 @@ pub mod Adjoints
 pub mod Laws
 pub mod Codes
 pub mod Answers
+pub mod Resolves

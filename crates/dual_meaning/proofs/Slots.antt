@@ -1,0 +1,55 @@
+-- The name of the slot that was found for a name is that name.
+use Rattle.std.specs.Prelude.{◌≡◌, ℕ, zero, suc, Bool, true, false, cond, List, [], ◌∷◌, Option, Some, None, option_map, bytes_eq, refl}
+use Rattle.std.proofs.Common.{ap, sym, ◌∙◌, subst}
+use Rattle.std.proofs.lemmas.Slice.Eq.{bytes_eq-Decides}
+use Rattle.store_core.specs.declared.layout.Shape.{Shape}
+use Rattle.store_core.specs.Keys.{slot_of}
+use Rattle.std.specs.Prelude.{map, is_some, ◌++◌, ◌&&◌}
+use Rattle.std.proofs.lemmas.Bool.{and_from, and_parts, lt-ltb}
+use Rattle.std.proofs.lemmas.List.{map-append}
+use Rattle.fl_ast.specs.Tree.{Expressions, Designator}
+use Rattle.dual_meaning.specs.declared.resolved.Code.{Code}
+use Rattle.dual_meaning.specs.Codes.{slot_name, all_of, is_within, are_within}
+
+later : (s : Shape) (es : List Shape) (x : List ℕ) (k : ℕ) (o : Option ℕ) → ((j : ℕ) → o ≡ Some j → slot_name es j ≡ x) → option_map suc o ≡ Some k → slot_name (s ∷ es) k ≡ x
+later s es x k None f e = cc
+later s es x k (Some j) f e =
+    let q : suc j ≡ k = cc in
+    let P : ℕ → Type 0 = λ n. slot_name (s ∷ es) n ≡ x in subst P q (f j refl)
+
+slot_stands_by : (s : Shape) (es : List Shape) (x : List ℕ) (k : ℕ) (b : Bool) → bytes_eq x s.name ≡ b → ((j : ℕ) → slot_of es x ≡ Some j → slot_name es j ≡ x)
+    → cond b (Some 0) (option_map suc (slot_of es x)) ≡ Some k → slot_name (s ∷ es) k ≡ x
+slot_stands_by s es x k true t f e =
+    let q : 0 ≡ k = cc in
+    let P : ℕ → Type 0 = λ n. slot_name (s ∷ es) n ≡ x in subst P q (sym ((bytes_eq-Decides x s.name).0 t))
+slot_stands_by s es x k false t f e = later s es x k (slot_of es x) f e
+
+stands : (es : List Shape) (x : List ℕ) (k : ℕ) → slot_of es x ≡ Some k → slot_name es k ≡ x
+stands [] x k e = cc
+stands (s ∷ es) x k e = slot_stands_by s es x k (bytes_eq x s.name) refl (λ j f. stands es x j f) e
+
+pub slot_stands : (es : List Shape) (x : List ℕ) (k : ℕ) → Some k ≡ slot_of es x → slot_name es k ≡ x
+slot_stands es x k e = stands es x k (sym e)
+
+abbrev designator : List ℕ → Expressions → Designator
+designator x y = record { name = x; subscripts = y }
+
+pub designators : (a b : List ℕ) (s t : Expressions) → a ≡ b → s ≡ t → designator a s ≡ designator b t
+designators a b s t e f = ap (λ (x : List ℕ). designator x s) e ∙ ap (λ (y : Expressions). designator b y) f
+
+pub found_some : (o : Option ℕ) (k : ℕ) → Some k ≡ o → is_some o ≡ true
+found_some None k e = cc
+found_some (Some j) k e = refl
+
+pub ruleset slots = (slot_stands, found_some, lt-ltb)
+
+all_more : (bs : List Bool) (b : Bool) → all_of bs ≡ true → b ≡ true → all_of (bs ++ b ∷ []) ≡ true
+all_more [] b h g = and_from b true g refl
+all_more (a ∷ bs) b h g =
+    let p : (a ≡ true) × (all_of bs ≡ true) = and_parts a (all_of bs) h in
+    and_from a _ p.0 (all_more bs b p.1 g)
+
+pub within_push : (n : ℕ) (codes : List Code) (code : Code) → are_within n codes ≡ true → is_within n code ≡ true → are_within n (codes ++ code ∷ []) ≡ true
+within_push n codes code h g =
+    let P : List Bool → Type 0 = λ bs. all_of bs ≡ true in
+    subst P (sym (map-append (is_within n) codes (code ∷ []))) (all_more (map (is_within n) codes) (is_within n code) h g)
