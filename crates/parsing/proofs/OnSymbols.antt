@@ -4,12 +4,18 @@ use Rattle.tokens.specs.Lexeme.{Lexeme}
 use Rattle.parsing.specs.declared.symbol.Symbol.{Symbol}
 use Rattle.parsing.specs.declared.symbol.Symbol.TheVariants as s
 use Rattle.parsing.specs.Freed.{Freed}
-use Rattle.parsing.specs.Symbol.{symbol_of, symbol_by}
+use Rattle.std.specs.Prelude.{bytes_eq}
+use Rattle.std.specs.Str.{str_to_ascii_lowercase}
+use Rattle.tokens.specs.declared.TokenKind.{TokenKind}
+use Rattle.tokens.specs.declared.TokenKind.TheVariants as kind
+use Rattle.parsing.specs.declared.cursor.Number.{Number}
+use Rattle.parsing.specs.Symbol.{Entry, look_up, kind_numbers, words as word_table, symbol_of, symbol_by}
+use Rattle.parsing.proofs.Table.{same_bytes}
 use Rattle.parsing.specs.Example.{example}
-use Rattle.parsing.specs.Terminal.{code, same, on, is, marked, by, some, reads, names, word_of, name, words, word, numbers, number}
+use Rattle.parsing.specs.Terminal.{code, same, on, is, marked, by, some, reads, names, word_of, name, words, word, number_by, numbers, number, same_word}
 use Rattle.parsing.specs.Reading.{Lexemes, Parser, ◌>>=◌ as ◌▷◌, sees, token}
 use Rattle.parsing.specs.Grammar.{Grammar, one, ◌>>=◌ as ◌⨟◌}
-use Rattle.parsing.proofs.Outcomes.{never, Bites, Shrinks, bites_seq}
+use Rattle.parsing.proofs.Outcomes.{never, differ, Bites, Shrinks, bites_seq}
 use Rattle.parsing.proofs.Exact.{Exact, Begins, Meets, seq, token_exact, bites_token}
 use Rattle.parsing.proofs.Rules.{meets_never}
 
@@ -295,3 +301,51 @@ some_of None e = cc
 
 pub bites_by : {A B : Type 0} (read : Symbol → Option A) (f : A → Parser B) → ((x : A) → Shrinks (f x)) → Bites (token (by read) ▷ f) (on (reads read))
 bites_by read f F = bites_seq (token (by read)) f (on (reads read)) (bites_token (by read) (on (reads read)) (λ t h. some_of (read (symbol_of t)) h)) F
+
+-- ---- what words and numbers have for symbols
+
+abbrev every_entry : (Symbol → Bool) → List Entry → Bool
+every_entry f [] = true
+every_entry f (e ∷ es) = f e.1 && every_entry f es
+
+of_cond : (f : Symbol → Bool) (b : Bool) (a c : Symbol) → f a ≡ true → f c ≡ true → f (cond b a c) ≡ true
+of_cond f true a c h k = h
+of_cond f false a c h k = k
+
+look_up_is : (f : Symbol → Bool) (table : List Entry) (bytes : List ℕ) (otherwise : Symbol) → every_entry f table ≡ true → f otherwise ≡ true → f (look_up table bytes otherwise) ≡ true
+look_up_is f [] bytes otherwise h k = k
+look_up_is f (e ∷ es) bytes otherwise h k =
+  of_cond f (bytes_eq bytes (str_to_ascii_lowercase e.0)) e.1 (look_up es bytes otherwise) (and_l (f e.1) (every_entry f es) h) (look_up_is f es bytes otherwise (and_r (f e.1) (every_entry f es) h) k)
+
+number_symbol : (k : TokenKind) (bytes : List ℕ) (x : Number) → number_by k ≡ Some x → numbers (symbol_by k bytes) ≡ true
+unfolding symbol_by
+number_symbol kind.Word bytes x e = cc
+number_symbol (kind.Number value suffix) bytes x e = look_up_is numbers kind_numbers bytes s.Number refl refl
+number_symbol kind.Mark bytes x e = cc
+number_symbol kind.Dots bytes x e = cc
+number_symbol kind.Sentinel bytes x e = cc
+number_symbol kind.LineEnd bytes x e = cc
+
+pub begins_number : Begins (one number) (on numbers)
+begins_number = begins_one number (on numbers) (λ t x h. number_symbol t.kind t.bytes x h)
+
+pub begins_word : Begins (one word) (on words)
+begins_word = begins_one word (on words) (λ t x h. cond_some (on words t) (word_of t) x h)
+
+word_symbol : (bytes : List ℕ) → words (symbol_by kind.Word bytes) ≡ true
+unfolding symbol_by
+word_symbol bytes = look_up_is words word_table bytes s.Name refl refl
+
+pub begins_same_word : (bytes : List ℕ) → Begins (one (same_word bytes)) (on words)
+begins_same_word bytes = begins_one (same_word bytes) (on words)
+  (λ t x h. and_l (on words t) (bytes_eq t.bytes (str_to_ascii_lowercase bytes)) (cond_some (on words t && bytes_eq t.bytes (str_to_ascii_lowercase bytes)) tt x h))
+
+given : {A : Type 0} (x : A) (a b : Bool) → a ≡ true → b ≡ true → cond (a && b) (Some x) None ≡ Some x
+given x true true h k = refl
+given x true false h k = differ false k refl
+given x false b h k = differ false h refl
+
+pub same_word_exact : {l : Freed} (bytes : List ℕ) → Exact l (one (same_word bytes)) never (token (same_word bytes)) (token (same_word bytes))
+same_word_exact bytes =
+  let t : Lexeme = record { line = 1; kind = kind.Word; bytes = str_to_ascii_lowercase bytes } in
+  token_exact (same_word bytes) tt t (given tt (on words t) (bytes_eq t.bytes (str_to_ascii_lowercase bytes)) (word_symbol t.bytes) (same_bytes t.bytes t.bytes refl))

@@ -219,3 +219,32 @@ module _ {A : Type 0} (l : Freed) (test before after : Lexeme → Bool) (room ro
         let sizes : length (done ++ r) ≡ length done + length r = length-append done r in
         enough (length (done ++ r)) k left (done ++ r) (omega arith) (omega arith)
           ∙ ap (λ v. turns test room cause read k left (v ++ r)) (sym split.0) ∙ m.4 r (h ∙ ap first (sym split.1))
+
+-- ---- what may be empty
+
+-- A phrase is empty, or begins with a token that passes the test.
+abbrev pub Opens : {A : Type 0} → Grammar A → (Lexeme → Bool) → Type 0
+Opens N test = (x : _) (us rest : Lexemes) → N x us → (us ≡ []) ⊎ (sees test (us ++ rest) ≡ true)
+
+pub opens_or : {A : Type 0} (N M : Grammar A) (test : Lexeme → Bool) → Opens N test → Opens M test → Opens (N or M) test
+opens_or N M test b c x us rest (inl n) = b x us rest n
+opens_or N M test b c x us rest (inr m) = c x us rest m
+
+pub opens_gives : {A : Type 0} (a : A) (test : Lexeme → Bool) → Opens (gives a) test
+opens_gives a test x us rest n = inl n.1
+
+pub opens_begins : {A : Type 0} (N : Grammar A) (test : Lexeme → Bool) → Begins N test → Opens N test
+opens_begins N test b x us rest n = inr (b x us rest n)
+
+pub opens_many : {A : Type 0} (room : A → Bool) (step : A → Grammar A) (test : Lexeme → Bool) → ((left : A) → Begins (step left) test) → (left : A) → Opens (many (stepping room step) left) test
+opens_many room step test b left x us rest (zero, g) = inl g.1
+opens_many room step test b left x us rest (suc n, (y, vs, ws, (r, s), t, e)) =
+  inr (ap (sees test) (ap (λ v. v ++ rest) e ∙ append_assoc vs ws rest) ∙ b left y vs (ws ++ rest) s)
+
+pub begins_opens : {A B : Type 0} (N : Grammar A) (M : A → Grammar B) (test : Lexeme → Bool) → Opens N test → ((x : A) → Begins (M x) test) → Begins (N ⨟ M) test
+begins_opens N M test o b z us rest (x, vs, ws, n, m, e) =
+  ap (sees test) (ap (λ v. v ++ rest) e ∙ append_assoc vs ws rest) ∙ by (o x vs (ws ++ rest) n)
+  where
+    by : (vs ≡ []) ⊎ (sees test (vs ++ (ws ++ rest)) ≡ true) → sees test (vs ++ (ws ++ rest)) ≡ true
+    by (inl i) = ap (λ v. sees test (v ++ (ws ++ rest))) i ∙ b x z ws rest m
+    by (inr h) = h
