@@ -1,1 +1,4 @@
+pub mod Exprs
+pub mod Texts
 pub mod Turns
+pub mod Units

@@ -1,6 +1,10 @@
+pub mod ExprGrammar
 pub mod ExprReading
 pub mod Nests
 pub mod Parsed
+pub mod Refuses
 pub mod Terminals
 pub mod Trees
+pub mod UnitGrammar
 pub mod UnitReading
+pub mod Wide

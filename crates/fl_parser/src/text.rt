@@ -1,13 +1,16 @@
 //! Whole texts.
 
-ghost use Rattle.std.specs.Prelude.{◌≡◌, ◌+◌, ◌<◌, ◌^◌, length, map};
+ghost use Rattle.std.specs.Prelude.{◌≡◌, ◌≢◌, ◌+◌, ◌<◌, ◌^◌, length, map, Ok, IfOk, IfErr};
+ghost use Rattle.fl_ast.specs.declared.stmt.Program.{Program};
 ghost use Rattle.fl_base.specs.Finds.{Finds};
 ghost use Rattle.tokens.specs.Lexeme.{lexeme};
 ghost use Rattle.tokens.specs.Spans.{Are_spans};
 ghost use Rattle.parsing.specs.Refusal.{all_of};
 ghost use Rattle.parsing.specs.Code.{Gives};
 ghost use Rattle.fl_parser.specs.Parsed.{parsed};
+ghost use Rattle.fl_parser.specs.Refuses.{Refuses};
 ghost use Rattle.fl_parser.specs.Trees as trees;
+ghost use Rattle.fl_parser.specs.UnitGrammar as grammar;
 ghost use Rattle.fl_parser.specs.UnitReading as spec;
 
 use crate::error::{ParseError, error_of};
@@ -30,9 +33,8 @@ fn whole(alloc: Global, text: &[u8], tokens: &[Token]) -> Result<Program, Failur
     }
 }
 
-/// The program that the tokens of a text spell.
 #[tactic(auto, unfolding(crate::specs::Parsed::parsed))]
-pub fn parse(alloc: Global, text: &[u8], tokens: &[Token]) -> Result<Program, ParseError>
+fn read(alloc: Global, text: &[u8], tokens: &[Token]) -> Result<Program, ParseError>
     requires spans { Are_spans text.now tokens.now }
     requires fits { length text.now + 1 < 2 ^ 32 }
     ensures { Finds (λ p. p) ParseError.Memory (parsed text.now tokens.now) result }
@@ -42,4 +44,20 @@ pub fn parse(alloc: Global, text: &[u8], tokens: &[Token]) -> Result<Program, Pa
         Err(Failure::Memory) => Err(ParseError::Memory),
         Err(Failure::Refused(fault)) => Err(error_of(text, tokens, fault)),
     }
+}
+
+/// The program that the tokens of a text spell.
+pub fn parse(alloc: Global, text: &[u8], tokens: &[Token]) -> Result<Program, ParseError>
+    requires spans { Are_spans text.now tokens.now }
+    requires fits { length text.now + 1 < 2 ^ 32 }
+    ensures parsed { Finds (λ p. p) ParseError.Memory (parsed text.now tokens.now) result }
+
+    // What is read is spelled so, and what is spelled so is read.
+    ensures found { IfOk result (λ p. grammar.unit trees.the_limits p (map (lexeme text.now) tokens.now)) }
+    ensures only { (p : Program) → grammar.unit trees.the_limits p (map (lexeme text.now) tokens.now) → Finds (λ p. p) ParseError.Memory (Ok p) result }
+
+    // A refusal has the first place at which no program goes on, and tells whether a limit is why.
+    ensures refused { IfErr result (λ e. e ≢ ParseError.Memory → Refuses text.now tokens.now e) }
+{
+    read(alloc, text, tokens)
 }

@@ -212,94 +212,93 @@ room_of {l} {cause} {limit} {wide} F n = record {
 pub frees_less : {l : Freed} {cause : Cause} {limit wide : Limit} → Frees l cause limit wide → Frees l cause (fewer limit) (fewer wide)
 frees_less F = record { stays = λ h. ap fewer (F.stays h); goes = λ h. ap fewer (F.goes h) }
 
-module _ {A : Type 0} {l : Freed} {N M : Grammar A} {after : Lexeme → Bool} {test : Lexeme → Bool} {q q2 s s2 : Parser A} where
-  inside_ok : (r r2 : Bool) (cause : Cause) → Room l cause r r2 → (r ≡ true → Exact l N after q q2) → (ts : Lexemes) (u : A × Lexemes) → within r cause q ts ≡ Ok u → within r2 cause q2 ts ≡ Ok u
-  inside_ok true r2 cause R P ts u e = ap (λ b. within b cause q2 ts) (R.grows refl) ∙ (P refl).ok ts u e
-  inside_ok false r2 cause R P ts u e = ok_err (fault cause ts) u (sym e)
+inside_ok : {A : Type 0} {l : Freed} {N : Grammar A} {after : Lexeme → Bool} {q q2 : Parser A} (r r2 : Bool) (cause : Cause) → Room l cause r r2 → (r ≡ true → Exact l N after q q2) → (ts : Lexemes) (u : A × Lexemes) → within r cause q ts ≡ Ok u → within r2 cause q2 ts ≡ Ok u
+inside_ok {A} {l} {N} {after} {q} {q2} true r2 cause R P ts u e = ap (λ b. within b cause q2 ts) (R.grows refl) ∙ (P refl).ok ts u e
+inside_ok false r2 cause R P ts u e = ok_err (fault cause ts) u (sym e)
 
-  inside_same : (r r2 : Bool) (cause : Cause) → Room l cause r r2 → (r ≡ true → Exact l N after q q2) → (ts : Lexemes) (f : Fault) → within r cause q ts ≡ Err f → frees l f.cause ≡ false → within r2 cause q2 ts ≡ Err f
-  inside_same true r2 cause R P ts f e c = ap (λ b. within b cause q2 ts) (R.grows refl) ∙ (P refl).same ts f e c
-  inside_same false r2 cause R P ts f e c =
-    ap (λ b. within b cause q2 ts) (R.lifts refl ∙ ap (λ v. frees l v.cause) (err_is (fault cause ts) f e) ∙ c) ∙ e
+inside_same : {A : Type 0} {l : Freed} {N : Grammar A} {after : Lexeme → Bool} {q q2 : Parser A} (r r2 : Bool) (cause : Cause) → Room l cause r r2 → (r ≡ true → Exact l N after q q2) → (ts : Lexemes) (f : Fault) → within r cause q ts ≡ Err f → frees l f.cause ≡ false → within r2 cause q2 ts ≡ Err f
+inside_same {A} {l} {N} {after} {q} {q2} true r2 cause R P ts f e c = ap (λ b. within b cause q2 ts) (R.grows refl) ∙ (P refl).same ts f e c
+inside_same {A} {l} {N} {after} {q} {q2} false r2 cause R P ts f e c =
+  ap (λ b. within b cause q2 ts) (R.lifts refl ∙ ap (λ v. frees l v.cause) (err_is (fault cause ts) f e) ∙ c) ∙ e
 
-  inside_past : (r r2 : Bool) (cause : Cause) → Room l cause r r2 → (r ≡ true → Exact l N after q q2) → (r ≡ false → r2 ≡ true → Bites q2 test) →
-    (ts : Lexemes) (f : Fault) → sees test ts ≡ true → within r cause q ts ≡ Err f → frees l f.cause ≡ true → Past (within r2 cause q2 ts) f.left
-  inside_past true r2 cause R P bites ts f h e c = subst (λ (b : Bool). Past (within b cause q2 ts) f.left) (sym (R.grows refl)) ((P refl).past ts f e c)
-  inside_past false r2 cause R P bites ts f h e c =
-    let k = err_is (fault cause ts) f e in
-    let open_ : r2 ≡ true = R.lifts refl ∙ ap (λ v. frees l v.cause) k ∙ c in
-    subst (λ (b : Bool). Past (within b cause q2 ts) f.left) (sym open_)
-      (subst (λ (n : ℕ). Past (q2 ts) n) (ap (λ v. v.left) k) (bites refl open_ ts h))
+inside_past : {A : Type 0} {l : Freed} {N : Grammar A} {after : Lexeme → Bool} {q q2 : Parser A} (test : Lexeme → Bool) (r r2 : Bool) (cause : Cause) → Room l cause r r2 → (r ≡ true → Exact l N after q q2) → (r ≡ false → r2 ≡ true → Bites q2 test) →
+  (ts : Lexemes) (f : Fault) → sees test ts ≡ true → within r cause q ts ≡ Err f → frees l f.cause ≡ true → Past (within r2 cause q2 ts) f.left
+inside_past {A} {l} {N} {after} {q} {q2} test true r2 cause R P bites ts f h e c = subst (λ (b : Bool). Past (within b cause q2 ts) f.left) (sym (R.grows refl)) ((P refl).past ts f e c)
+inside_past {A} {l} {N} {after} {q} {q2} test false r2 cause R P bites ts f h e c =
+  let k = err_is (fault cause ts) f e in
+  let open_ : r2 ≡ true = R.lifts refl ∙ ap (λ v. frees l v.cause) k ∙ c in
+  subst (λ (b : Bool). Past (within b cause q2 ts) f.left) (sym open_)
+    (subst (λ (n : ℕ). Past (q2 ts) n) (ap (λ v. v.left) k) (bites refl open_ ts h))
 
-  inside_shrinks : (r r2 : Bool) (cause : Cause) → Room l cause r r2 → (r ≡ true → Exact l N after q q2) → (r ≡ false → r2 ≡ true → Bites q2 test) →
-    (ts : Lexemes) → sees test ts ≡ true → Within (within r2 cause q2 ts) (length ts)
-  inside_shrinks true r2 cause R P bites ts h = subst (λ (b : Bool). Within (within b cause q2 ts) (length ts)) (sym (R.grows refl)) ((P refl).shrinks ts)
-  inside_shrinks false true cause R P bites ts h = within_past (q2 ts) (length ts) (bites refl refl ts h)
-  inside_shrinks false false cause R P bites ts h = omega arith
+inside_shrinks : {A : Type 0} {l : Freed} {N : Grammar A} {after : Lexeme → Bool} {q q2 : Parser A} (test : Lexeme → Bool) (r r2 : Bool) (cause : Cause) → Room l cause r r2 → (r ≡ true → Exact l N after q q2) → (r ≡ false → r2 ≡ true → Bites q2 test) →
+  (ts : Lexemes) → sees test ts ≡ true → Within (within r2 cause q2 ts) (length ts)
+inside_shrinks {A} {l} {N} {after} {q} {q2} test true r2 cause R P bites ts h = subst (λ (b : Bool). Within (within b cause q2 ts) (length ts)) (sym (R.grows refl)) ((P refl).shrinks ts)
+inside_shrinks {A} {l} {N} {after} {q} {q2} test false true cause R P bites ts h = within_past (q2 ts) (length ts) (bites refl refl ts h)
+inside_shrinks {A} {l} {N} {after} {q} {q2} test false false cause R P bites ts h = omega arith
 
-  -- The one where its limit leaves room, and else the token that would begin it is refused.
-  pub either_within : (room room2 : Bool) (cause : Cause) → Room l cause room room2 →
-    (room ≡ true → Exact l N after q q2) → (room ≡ false → room2 ≡ true → Bites q2 test) → Exact l M after s s2 → Begins N test → Meets M test after →
-    Exact l (where_ room N or M) after (choose test (within room cause q) s) (choose test (within room2 cause q2) s2)
-  either_within room room2 cause R P bites Q begins other = record {
-    some = let n = Q.some in (n.0, n.1, inr n.2);
-    takes = λ ts rest x e.
-      elim (which (sees test ts)) [
-        inl h ↦
-          let n = inside_takes room P ts rest x (sym (choose_true test (within room cause q) s ts h) ∙ e) in
-          (n.0, inl n.1, n.2, λ r k. choose_true test (within room cause q) s (n.0 ++ r) (sees-same test (n.0 ++ r) ts (first-append n.0 r rest k ∙ ap first (sym n.2)) ∙ h) ∙ n.3 r k)
-      | inr h ↦
-          let n = Q.takes ts rest x (sym (choose_false test (within room cause q) s ts h) ∙ e) in
-          (n.0, inr n.1, n.2, λ r k. choose_false test (within room cause q) s (n.0 ++ r) (sees-same test (n.0 ++ r) ts (first-append n.0 r rest k ∙ ap first (sym n.2)) ∙ h) ∙ n.3 r k)
-      ];
-    again = λ x us rest n h.
-      elim n [
-        inl m ↦ choose_true test (within room cause q) s (us ++ rest) (begins x us rest m.1) ∙ inside_again room P x us rest m h
-      | inr m ↦ choose_false test (within room cause q) s (us ++ rest) (other x us rest m h) ∙ Q.again x us rest m h
-      ];
-    fails = λ ts f e.
-      elim (which (sees test ts)) [
-        inl h ↦
-          let n = inside_fails room P ts f (sym (choose_true test (within room cause q) s ts h) ∙ e) in
-          (n.0, n.1, n.2, n.3, λ r k. choose_true test (within room cause q) s (n.0 ++ r) (sees-same test (n.0 ++ r) ts (first-append n.0 r n.1 k ∙ ap first (sym n.2)) ∙ h) ∙ n.4 r k)
-      | inr h ↦
-          let n = Q.fails ts f (sym (choose_false test (within room cause q) s ts h) ∙ e) in
-          (n.0, n.1, n.2, (n.3.0, n.3.1, inr n.3.2), λ r k. choose_false test (within room cause q) s (n.0 ++ r) (sees-same test (n.0 ++ r) ts (first-append n.0 r n.1 k ∙ ap first (sym n.2)) ∙ h) ∙ n.4 r k)
-      ];
-    ok = λ ts u e.
-      elim (which (sees test ts)) [
-        inl h ↦ choose_true test (within room2 cause q2) s2 ts h ∙ inside_ok room room2 cause R P ts u (sym (choose_true test (within room cause q) s ts h) ∙ e)
-      | inr h ↦ choose_false test (within room2 cause q2) s2 ts h ∙ Q.ok ts u (sym (choose_false test (within room cause q) s ts h) ∙ e)
-      ];
-    same = λ ts f e c.
-      elim (which (sees test ts)) [
-        inl h ↦ choose_true test (within room2 cause q2) s2 ts h ∙ inside_same room room2 cause R P ts f (sym (choose_true test (within room cause q) s ts h) ∙ e) c
-      | inr h ↦ choose_false test (within room2 cause q2) s2 ts h ∙ Q.same ts f (sym (choose_false test (within room cause q) s ts h) ∙ e) c
-      ];
-    past = λ ts f e c.
-      elim (which (sees test ts)) [
-        inl h ↦ subst (λ (v : Outcome A). Past v f.left) (sym (choose_true test (within room2 cause q2) s2 ts h))
-          (inside_past room room2 cause R P bites ts f h (sym (choose_true test (within room cause q) s ts h) ∙ e) c)
-      | inr h ↦ subst (λ (v : Outcome A). Past v f.left) (sym (choose_false test (within room2 cause q2) s2 ts h))
-          (Q.past ts f (sym (choose_false test (within room cause q) s ts h) ∙ e) c)
-      ];
-    shrinks = λ ts.
-      elim (which (sees test ts)) [
-        inl h ↦ subst (λ (v : Outcome A). Within v (length ts)) (sym (choose_true test (within room2 cause q2) s2 ts h)) (inside_shrinks room room2 cause R P bites ts h)
-      | inr h ↦ subst (λ (v : Outcome A). Within v (length ts)) (sym (choose_false test (within room2 cause q2) s2 ts h)) (Q.shrinks ts)
-      ];
-  }
-    where
-      inside_takes : (r : Bool) → (r ≡ true → Exact l N after q q2) → (ts rest : Lexemes) (x : A) → within r cause q ts ≡ Ok (x, rest) →
-        (us : Lexemes) × where_ r N x us × (ts ≡ us ++ rest) × Steady (within r cause q) us rest x
-      inside_takes true P ts rest x e = let n = (P refl).takes ts rest x e in (n.0, (refl, n.1), n.2, n.3)
-      inside_takes false P ts rest x e = ok_err (fault cause ts) (x, rest) (sym e)
-      inside_again : (r : Bool) → (r ≡ true → Exact l N after q q2) → (x : A) (us rest : Lexemes) → where_ r N x us → sees after rest ≡ false → within r cause q (us ++ rest) ≡ Ok (x, rest)
-      inside_again true P x us rest n h = (P refl).again x us rest n.1 h
-      inside_again false P x us rest n h = differ true refl (sym n.0)
-      inside_fails : (r : Bool) → (r ≡ true → Exact l N after q q2) → (ts : Lexemes) (f : Fault) → within r cause q ts ≡ Err f →
-        (done : Lexemes) × (rest : Lexemes) × (ts ≡ done ++ rest) × ((x : A) × (more : Lexemes) × (where_ r N or M) x (done ++ more)) × Stuck (within r cause q) done rest f.cause
-      inside_fails true P ts f e = let n = (P refl).fails ts f e in (n.0, n.1, n.2, (n.3.0, n.3.1, inl (refl, n.3.2)), n.4)
-      inside_fails false P ts f e =
-        let n = Q.some in
-        ([], ts, refl, (n.0, n.1, inr n.2), λ r j. ap (λ v. Err (fault v r)) (ap (λ v. v.cause) (err_is (fault cause ts) f e)))
+-- The one where its limit leaves room, and else the token that would begin it is refused.
+pub either_within : {A : Type 0} {l : Freed} {N M : Grammar A} {after : Lexeme → Bool} {test : Lexeme → Bool} {q q2 s s2 : Parser A} (room room2 : Bool) (cause : Cause) → Room l cause room room2 →
+  (room ≡ true → Exact l N after q q2) → (room ≡ false → room2 ≡ true → Bites q2 test) → Exact l M after s s2 → Begins N test → Meets M test after →
+  Exact l (where_ room N or M) after (choose test (within room cause q) s) (choose test (within room2 cause q2) s2)
+either_within {A} {l} {N} {M} {after} {test} {q} {q2} {s} {s2} room room2 cause R P bites Q begins other = record {
+  some = let n = Q.some in (n.0, n.1, inr n.2);
+  takes = λ ts rest x e.
+    elim (which (sees test ts)) [
+      inl h ↦
+        let n = inside_takes room P ts rest x (sym (choose_true test (within room cause q) s ts h) ∙ e) in
+        (n.0, inl n.1, n.2, λ r k. choose_true test (within room cause q) s (n.0 ++ r) (sees-same test (n.0 ++ r) ts (first-append n.0 r rest k ∙ ap first (sym n.2)) ∙ h) ∙ n.3 r k)
+    | inr h ↦
+        let n = Q.takes ts rest x (sym (choose_false test (within room cause q) s ts h) ∙ e) in
+        (n.0, inr n.1, n.2, λ r k. choose_false test (within room cause q) s (n.0 ++ r) (sees-same test (n.0 ++ r) ts (first-append n.0 r rest k ∙ ap first (sym n.2)) ∙ h) ∙ n.3 r k)
+    ];
+  again = λ x us rest n h.
+    elim n [
+      inl m ↦ choose_true test (within room cause q) s (us ++ rest) (begins x us rest m.1) ∙ inside_again room P x us rest m h
+    | inr m ↦ choose_false test (within room cause q) s (us ++ rest) (other x us rest m h) ∙ Q.again x us rest m h
+    ];
+  fails = λ ts f e.
+    elim (which (sees test ts)) [
+      inl h ↦
+        let n = inside_fails room P ts f (sym (choose_true test (within room cause q) s ts h) ∙ e) in
+        (n.0, n.1, n.2, n.3, λ r k. choose_true test (within room cause q) s (n.0 ++ r) (sees-same test (n.0 ++ r) ts (first-append n.0 r n.1 k ∙ ap first (sym n.2)) ∙ h) ∙ n.4 r k)
+    | inr h ↦
+        let n = Q.fails ts f (sym (choose_false test (within room cause q) s ts h) ∙ e) in
+        (n.0, n.1, n.2, (n.3.0, n.3.1, inr n.3.2), λ r k. choose_false test (within room cause q) s (n.0 ++ r) (sees-same test (n.0 ++ r) ts (first-append n.0 r n.1 k ∙ ap first (sym n.2)) ∙ h) ∙ n.4 r k)
+    ];
+  ok = λ ts u e.
+    elim (which (sees test ts)) [
+      inl h ↦ choose_true test (within room2 cause q2) s2 ts h ∙ inside_ok room room2 cause R P ts u (sym (choose_true test (within room cause q) s ts h) ∙ e)
+    | inr h ↦ choose_false test (within room2 cause q2) s2 ts h ∙ Q.ok ts u (sym (choose_false test (within room cause q) s ts h) ∙ e)
+    ];
+  same = λ ts f e c.
+    elim (which (sees test ts)) [
+      inl h ↦ choose_true test (within room2 cause q2) s2 ts h ∙ inside_same room room2 cause R P ts f (sym (choose_true test (within room cause q) s ts h) ∙ e) c
+    | inr h ↦ choose_false test (within room2 cause q2) s2 ts h ∙ Q.same ts f (sym (choose_false test (within room cause q) s ts h) ∙ e) c
+    ];
+  past = λ ts f e c.
+    elim (which (sees test ts)) [
+      inl h ↦ subst (λ (v : Outcome A). Past v f.left) (sym (choose_true test (within room2 cause q2) s2 ts h))
+        (inside_past test room room2 cause R P bites ts f h (sym (choose_true test (within room cause q) s ts h) ∙ e) c)
+    | inr h ↦ subst (λ (v : Outcome A). Past v f.left) (sym (choose_false test (within room2 cause q2) s2 ts h))
+        (Q.past ts f (sym (choose_false test (within room cause q) s ts h) ∙ e) c)
+    ];
+  shrinks = λ ts.
+    elim (which (sees test ts)) [
+      inl h ↦ subst (λ (v : Outcome A). Within v (length ts)) (sym (choose_true test (within room2 cause q2) s2 ts h)) (inside_shrinks test room room2 cause R P bites ts h)
+    | inr h ↦ subst (λ (v : Outcome A). Within v (length ts)) (sym (choose_false test (within room2 cause q2) s2 ts h)) (Q.shrinks ts)
+    ];
+}
+  where
+    inside_takes : (r : Bool) → (r ≡ true → Exact l N after q q2) → (ts rest : Lexemes) (x : A) → within r cause q ts ≡ Ok (x, rest) →
+      (us : Lexemes) × where_ r N x us × (ts ≡ us ++ rest) × Steady (within r cause q) us rest x
+    inside_takes true P ts rest x e = let n = (P refl).takes ts rest x e in (n.0, (refl, n.1), n.2, n.3)
+    inside_takes false P ts rest x e = ok_err (fault cause ts) (x, rest) (sym e)
+    inside_again : (r : Bool) → (r ≡ true → Exact l N after q q2) → (x : A) (us rest : Lexemes) → where_ r N x us → sees after rest ≡ false → within r cause q (us ++ rest) ≡ Ok (x, rest)
+    inside_again true P x us rest n h = (P refl).again x us rest n.1 h
+    inside_again false P x us rest n h = differ true refl (sym n.0)
+    inside_fails : (r : Bool) → (r ≡ true → Exact l N after q q2) → (ts : Lexemes) (f : Fault) → within r cause q ts ≡ Err f →
+      (done : Lexemes) × (rest : Lexemes) × (ts ≡ done ++ rest) × ((x : A) × (more : Lexemes) × (where_ r N or M) x (done ++ more)) × Stuck (within r cause q) done rest f.cause
+    inside_fails true P ts f e = let n = (P refl).fails ts f e in (n.0, n.1, n.2, (n.3.0, n.3.1, inl (refl, n.3.2)), n.4)
+    inside_fails false P ts f e =
+      let n = Q.some in
+      ([], ts, refl, (n.0, n.1, inr n.2), λ r j. ap (λ v. Err (fault v r)) (ap (λ v. v.cause) (err_is (fault cause ts) f e)))

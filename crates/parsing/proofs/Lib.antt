@@ -1,3 +1,6 @@
 pub mod Exact
+pub mod OnSymbols
 pub mod Outcomes
+pub mod Rules
 pub mod Table
+pub mod Whole

@@ -79,7 +79,7 @@ pub err_is : {A : Type 0} (f g : Fault) → (let a : Outcome A = Err f in a) ≡
 err_is f g e = cc
 
 pub ok_err : {A B : Type 0} (f : Fault) (u : A × Lexemes) → (let a : Outcome A = Ok u in a) ≡ Err f → B
-ok_err f u e = absurd (wrong f u e)
+ok_err {A} f u e = absurd (wrong f u e)
   where
     wrong : (f : Fault) (u : A × Lexemes) → (let a : Outcome A = Ok u in a) ≡ Err f → ⊥
     wrong f u e = cc
@@ -151,11 +151,11 @@ past_on (Err g) f n less h = h
 pub shrinks_pure : {A : Type 0} (a : A) → Shrinks (pure a)
 shrinks_pure a ts = omega arith
 
-pub shrinks_refuse : {A : Type 0} (cause : Cause) → Shrinks (refuse {A = A} cause)
-shrinks_refuse cause ts = omega arith
+pub shrinks_refuse : (A : Type 0) (cause : Cause) → Shrinks (refuse {A = A} cause)
+shrinks_refuse A cause ts = omega arith
 
-pub shrinks_seq : {A B : Type 0} {q : Parser A} {f : A → Parser B} → Shrinks q → ((x : A) → Shrinks (f x)) → Shrinks (q ▷ f)
-shrinks_seq {A} {B} {q} {f} P F ts = within_on (q ts) f (length ts) F (P ts)
+pub shrinks_seq : {A B : Type 0} (q : Parser A) (f : A → Parser B) → Shrinks q → ((x : A) → Shrinks (f x)) → Shrinks (q ▷ f)
+shrinks_seq q f P F ts = within_on (q ts) f (length ts) F (P ts)
 
-pub bites_seq : {A B : Type 0} {q : Parser A} {f : A → Parser B} {test : Lexeme → Bool} → Bites q test → ((x : A) → Shrinks (f x)) → Bites (q ▷ f) test
-bites_seq {A} {B} {q} {f} {test} P F ts h = past_on (q ts) f (length ts) F (P ts h)
+pub bites_seq : {A B : Type 0} (q : Parser A) (f : A → Parser B) (test : Lexeme → Bool) → Bites q test → ((x : A) → Shrinks (f x)) → Bites (q ▷ f) test
+bites_seq q f test P F ts h = past_on (q ts) f (length ts) F (P ts h)

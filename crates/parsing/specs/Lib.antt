@@ -1,4 +1,5 @@
 pub mod Code
+pub mod Example
 pub mod Freed
 pub mod Grammar
 pub mod Limit

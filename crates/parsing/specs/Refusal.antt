@@ -1,5 +1,5 @@
 -- The place of a refusal: up to there some text of the grammar goes on, and through the token there none does.
-use Rattle.std.specs.Prelude.{◌≡◌, ℕ, List, [], ◌∷◌, ◌++◌, length, Result, Ok, Err}
+use Rattle.std.specs.Prelude.{◌≡◌, ◌<◌, ℕ, List, [], ◌∷◌, ◌++◌, length, Result, Ok, Err}
 use Rattle.parsing.specs.declared.fault.Fault.{Fault}
 use Rattle.parsing.specs.declared.fault.Cause.TheVariants.{Expected}
 use Rattle.parsing.specs.Reading.{Lexemes, Outcome, fault}
@@ -15,6 +15,10 @@ Ends N done (t ∷ rest) = Goes_on N (done ++ t ∷ []) → ⊥
 -- the first token, or the end, at which nothing of the grammar goes on; so many tokens are left there
 abbrev pub Refused_at : {A : Type 0} → Grammar A → Lexemes → ℕ → Type 0
 Refused_at N ts left = (done : Lexemes) × (rest : Lexemes) × (ts ≡ done ++ rest) × (length rest ≡ left) × Goes_on N done × Ends N done rest
+
+-- some text of the grammar goes on to a place with fewer tokens left
+abbrev pub Goes_past : {A : Type 0} → Grammar A → Lexemes → ℕ → Type 0
+Goes_past N ts left = (done : Lexemes) × (rest : Lexemes) × (ts ≡ done ++ rest) × (length rest < left) × Goes_on N done
 
 -- a reading that takes all of the tokens
 abbrev pub no_more : {A : Type 0} → A → Lexemes → Result A Fault

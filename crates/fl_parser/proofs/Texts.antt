@@ -1,0 +1,122 @@
+-- What the parser answers, against the grammar.
+use Rattle.std.proofs.Common.{◌≡◌, ◌≢◌, ℕ, ◌+◌, ◌<◌, Bool, true, false, List, map, Some, None, Result, Ok, Err, refl, sym, ap, subst, ◌∙◌, lit<, arith}
+use Rattle.std.specs.Prelude.{IfOk, IfErr}
+use Rattle.fl_base.specs.Finds.{Finds}
+use Rattle.tokens.specs.declared.Token.{Token}
+use Rattle.tokens.specs.Lexeme.{Lexeme, lexeme}
+use Rattle.fl_ast.specs.declared.stmt.Program.{Program}
+use Rattle.parsing.specs.declared.fault.Cause.{Cause}
+use Rattle.parsing.specs.declared.fault.Cause.TheVariants.{Expected, Deep, Many}
+use Rattle.parsing.specs.declared.fault.Fault.{Fault}
+use Rattle.parsing.specs.Freed.{Freed, Frees, frees}
+use Rattle.parsing.specs.Freed.Freed.{Nothing, Counts, All}
+use Rattle.parsing.specs.Limit.{Limit}
+use Rattle.parsing.specs.Reading.{Lexemes}
+use Rattle.parsing.specs.Refusal.{Refused_at, Goes_past, all_of}
+use Rattle.fl_parser.specs.declared.error.ParseError.{ParseError}
+use Rattle.fl_parser.specs.declared.error.ParseError.TheVariants.{Memory}
+use Rattle.fl_parser.specs.Parsed.{error_of, placed, parsed}
+use Rattle.fl_parser.specs.Refuses.{Refuses, Told, uncounted, unlimited}
+use Rattle.fl_parser.specs.Trees.{Limits, the_limits}
+use Rattle.fl_parser.specs.Wide.{More, Widens}
+use Rattle.fl_parser.specs.UnitGrammar as g
+use Rattle.fl_parser.specs.UnitReading as p
+use Rattle.parsing.proofs.Outcomes.{never, differ}
+use Rattle.parsing.proofs.Exact.{Exact}
+use Rattle.parsing.proofs.Whole.{found, only, refused, freed, unfreed}
+use Rattle.fl_parser.proofs.Units.{unit_exact}
+
+same_limit : (cause : Cause) (d : Limit) → Frees Nothing cause d d
+same_limit cause d = record { stays = λ _. refl; goes = λ h. differ true refl (sym h) }
+
+kept : (l : Freed) (cause : Cause) (d : Limit) → frees l cause ≡ false → Frees l cause d d
+kept l cause d f = record { stays = λ _. refl; goes = λ h. differ (frees l cause) h f }
+
+gone : (l : Freed) (cause : Cause) (d : Limit) → frees l cause ≡ true → Frees l cause d None
+gone l cause d t = record { stays = λ f. differ (frees l cause) t f; goes = λ _. refl }
+
+more : (l : Freed) (b b2 : ℕ) → frees l Deep ≡ true → b < b2 → More l b b2
+more l b b2 t h = record { stays = λ f. differ (frees l Deep) t f; goes = λ _. h }
+
+at_all : (limits : Limits) → Widens Nothing limits limits
+at_all limits = record {
+  brackets = record { stays = λ _. refl; goes = λ h. differ true refl (sym h) };
+  beneath = same_limit Deep limits.beneath;
+  statements = same_limit Many limits.statements;
+  names = same_limit Many limits.names
+}
+
+to_uncounted : Widens Counts the_limits uncounted
+to_uncounted = record {
+  brackets = record { stays = λ _. refl; goes = λ h. differ true refl (sym h) };
+  beneath = kept Counts Deep (Some 63) refl;
+  statements = gone Counts Many (Some 4096) refl;
+  names = gone Counts Many (Some 512) refl
+}
+
+to_unlimited : (b : ℕ) → 256 < b → Widens All the_limits (unlimited b)
+to_unlimited b h = record {
+  brackets = more All 256 b refl h;
+  beneath = gone All Deep (Some 63) refl;
+  statements = gone All Many (Some 4096) refl;
+  names = gone All Many (Some 512) refl
+}
+
+reads_limits : Exact Nothing (g.unit the_limits) never (p.unit the_limits) (p.unit the_limits)
+reads_limits = unit_exact Nothing the_limits the_limits (at_all the_limits)
+
+reads_uncounted : Exact Nothing (g.unit uncounted) never (p.unit uncounted) (p.unit uncounted)
+reads_uncounted = unit_exact Nothing uncounted uncounted (at_all uncounted)
+
+reads_unlimited : (b : ℕ) → Exact Nothing (g.unit (unlimited b)) never (p.unit (unlimited b)) (p.unit (unlimited b))
+reads_unlimited b = unit_exact Nothing (unlimited b) (unlimited b) (at_all (unlimited b))
+
+told : (ts : Lexemes) (f : Fault) → all_of (p.unit the_limits ts) ≡ Err f → (cause : Cause) → f.cause ≡ cause → Told cause ts f.left
+told ts f e Expected c = λ b h. unfreed All Nothing (g.unit the_limits) (g.unit (unlimited b)) never (p.unit the_limits) (p.unit (unlimited b)) (p.unit (unlimited b))
+  (unit_exact All the_limits (unlimited b) (to_unlimited b h)) (reads_unlimited b) ts f e (ap (frees All) c)
+told ts f e Deep c =
+  (unfreed Counts Nothing (g.unit the_limits) (g.unit uncounted) never (p.unit the_limits) (p.unit uncounted) (p.unit uncounted)
+    (unit_exact Counts the_limits uncounted to_uncounted) reads_uncounted ts f e (ap (frees Counts) c),
+   freed All Nothing (g.unit the_limits) (g.unit (unlimited 257)) never (p.unit the_limits) (p.unit (unlimited 257)) (p.unit (unlimited 257))
+    (unit_exact All the_limits (unlimited 257) (to_unlimited 257 (lit< tt))) (reads_unlimited 257) ts f e (ap (frees All) c))
+told ts f e Many c = freed Counts Nothing (g.unit the_limits) (g.unit uncounted) never (p.unit the_limits) (p.unit uncounted) (p.unit uncounted)
+  (unit_exact Counts the_limits uncounted to_uncounted) reads_uncounted ts f e (ap (frees Counts) c)
+
+placed_ok : (text : List ℕ) (tokens : List Token) (o : Result Program Fault) (x : Program) → placed text tokens o ≡ Ok x → o ≡ Ok x
+placed_ok text tokens (Ok y) x e = same y x e
+  where
+    same : (y x : Program) → (let a : Result Program ParseError = Ok y in a) ≡ Ok x → (let a : Result Program Fault = Ok y in a) ≡ Ok x
+    same y x e = cc
+placed_ok text tokens (Err f) x e = cc
+
+placed_err : (text : List ℕ) (tokens : List Token) (o : Result Program Fault) (e : ParseError) → placed text tokens o ≡ Err e → (f : Fault) × (o ≡ Err f) × (e ≡ error_of text tokens f)
+placed_err text tokens (Ok y) e h = cc
+placed_err text tokens (Err f) e h = (f, refl, sym (same (error_of text tokens f) e h))
+  where
+    same : (d e : ParseError) → (let a : Result Program ParseError = Err d in a) ≡ Err e → d ≡ e
+    same d e h = cc
+
+pub found_by : (text : List ℕ) (tokens : List Token) (r : Result Program ParseError) → Finds (λ p. p) Memory (parsed text tokens) r → IfOk r (λ x. g.unit the_limits x (map (lexeme text) tokens))
+unfolding parsed
+found_by text tokens (Ok x) h = found Nothing (g.unit the_limits) never (p.unit the_limits) (p.unit the_limits) reads_limits (map (lexeme text) tokens) x (placed_ok text tokens _ x h)
+found_by text tokens (Err e) h = tt
+
+pub only_by : (text : List ℕ) (tokens : List Token) (r : Result Program ParseError) → Finds (λ p. p) Memory (parsed text tokens) r →
+  (x : Program) → g.unit the_limits x (map (lexeme text) tokens) → Finds (λ p. p) Memory (Ok x) r
+unfolding parsed
+only_by text tokens r h x n = by r h
+  where
+    is_x : parsed text tokens ≡ Ok x
+    is_x = ap (placed text tokens) (only Nothing (g.unit the_limits) never (p.unit the_limits) (p.unit the_limits) reads_limits (map (lexeme text) tokens) x n)
+    by : (r : Result Program ParseError) → Finds (λ p. p) Memory (parsed text tokens) r → Finds (λ p. p) Memory (Ok x) r
+    by (Ok y) h = sym is_x ∙ h
+    by (Err e) h = λ some_. sym is_x ∙ h some_
+
+pub refused_by : (text : List ℕ) (tokens : List Token) (r : Result Program ParseError) → Finds (λ p. p) Memory (parsed text tokens) r →
+  IfErr r (λ e. e ≢ Memory → Refuses text tokens e)
+unfolding parsed
+refused_by text tokens (Ok x) h = tt
+refused_by text tokens (Err e) h = λ some_.
+  let k = placed_err text tokens _ e (h some_) in
+  let ts = map (lexeme text) tokens in
+  (k.0, k.2, refused Nothing (g.unit the_limits) never (p.unit the_limits) (p.unit the_limits) reads_limits ts k.0 k.1, told ts k.0 k.1 k.0.cause refl)

@@ -1,0 +1,220 @@
+-- The grammar of a unit.
+use Rattle.std.specs.Prelude.{ℕ, ◌+◌, Bool, true, List, [], ◌∷◌, ◌++◌, length, Option, Some, None}
+use Rattle.tokens.specs.Lexeme.{Lexeme}
+use Rattle.fl_ast.specs.declared.kind.Kind.{Kind}
+use Rattle.fl_ast.specs.declared.kind.Kind.TheVariants.{Index, Ring}
+use Rattle.fl_ast.specs.declared.kind.Intent.{Intent}
+use Rattle.fl_ast.specs.declared.kind.Intent.TheVariants.{Unsaid, ReadOnly, WriteOnly, Both}
+use Rattle.fl_ast.specs.declared.decl.Decl.{Decl}
+use Rattle.fl_ast.specs.declared.stmt.Program.{Program}
+use Rattle.parsing.specs.declared.symbol.Symbol.TheVariants as s
+use Rattle.parsing.specs.declared.cursor.Word.{Word}
+use Rattle.parsing.specs.Limit.{Limit, allows}
+use Rattle.parsing.specs.Terminal.{marked, name, word, same_word}
+use Rattle.parsing.specs.Grammar.{Grammar, ◌>>=◌, gives, one, ◌or◌, where_, many}
+use Rattle.fl_parser.specs.declared.stmt.Counted.{Counted}
+use Rattle.fl_parser.specs.Terminals.{kind_number}
+use Rattle.fl_parser.specs.Trees.{Limits, declared, assigned, no_stmts, program}
+use Rattle.fl_parser.specs.ExprGrammar.{expr}
+
+-- ---- declarations
+
+-- [ "kind" "=" ]
+unfoldable pub kind_word : Grammar (Unit {0})
+kind_word =
+    (do
+      kind ← one (marked s.Kind)
+      equals ← one (marked s.Equals)
+      gives tt)
+    or gives tt
+
+-- "(" [ "kind" "=" ] ("4"|"8") ")"
+unfoldable pub kind_brackets : Grammar Kind
+kind_brackets = do
+  open_ ← one (marked s.Open)
+  said ← kind_word
+  k ← one kind_number
+  close ← one (marked s.Close)
+  gives k
+
+-- [ "(" [ "kind" "=" ] ("4"|"8") ")" ]
+unfoldable pub kind : Grammar Kind
+kind = kind_brackets or gives Index
+
+-- [ "out" ]
+unfoldable pub and_out : Grammar Intent
+and_out =
+    (do
+      out ← one (marked s.Out)
+      gives Both)
+    or gives ReadOnly
+
+-- "in" [ "out" ]
+unfoldable pub inward : Grammar Intent
+inward = do
+  in_ ← one (marked s.In)
+  and_out
+
+-- "out" | "inout"
+unfoldable pub outward : Grammar Intent
+outward =
+    (do
+      out ← one (marked s.Out)
+      gives WriteOnly)
+    or (do
+      inout ← one (marked s.InOut)
+      gives Both)
+
+-- "in" | "out" | "inout" | "in" "out"
+unfoldable pub direction : Grammar Intent
+direction = inward or outward
+
+-- "," "intent" "(" dir ")" "::"
+unfoldable pub intent_list : Grammar Intent
+intent_list = do
+  comma ← one (marked s.Comma)
+  intent ← one (marked s.Intent)
+  open_ ← one (marked s.Open)
+  i ← direction
+  close ← one (marked s.Close)
+  colons ← one (marked s.Colons)
+  gives i
+
+-- [ "::" ]
+unfoldable pub colons : Grammar Intent
+colons =
+    (do
+      colons ← one (marked s.Colons)
+      gives Unsaid)
+    or gives Unsaid
+
+-- [ "," "intent" "(" dir ")" "::" | "::" ]
+unfoldable pub intent : Grammar Intent
+intent = intent_list or colons
+
+module _ (limits : Limits) where
+  -- whether one more declaration fits
+  abbrev pub may_declare : List Decl → Bool
+  may_declare ds = allows limits.names (length ds + 1)
+
+  -- "," item
+  unfoldable pub another_item : ℕ → Kind → Intent → List Decl → Grammar (List Decl)
+  another_item line k i ds = do
+    comma ← one (marked s.Comma)
+    x ← one name
+    gives (declared ds line k i x)
+
+  unfoldable pub items : ℕ → Kind → Intent → List Decl → Grammar (List Decl)
+  items line k i = many (λ ds. where_ (may_declare ds) (another_item line k i ds))
+
+  -- "integer" [ kind ] [ intent ] name { "," name } eol
+  unfoldable pub decl : List Decl → Grammar (List Decl)
+  decl ds = do
+    line ← one (marked s.Integer)
+    k ← kind
+    i ← intent
+    x ← one name
+    found ← items line k i (declared ds line k i x)
+    eol ← one (marked s.LineEnd)
+    gives found
+
+  unfoldable pub decls : Grammar (List Decl)
+  decls = many (λ ds. where_ (may_declare ds) (decl ds)) []
+
+  -- ---- statements
+
+  -- name "=" expr eol
+  unfoldable pub assign : Counted → Grammar Counted
+  assign c = do
+    x ← one name
+    equals ← one (marked s.Equals)
+    e ← expr limits.brackets limits.beneath
+    eol ← one (marked s.LineEnd)
+    gives (assigned c x e)
+
+  unfoldable pub stmts : Grammar Counted
+  stmts = many (λ c. where_ (allows limits.statements (c.count + 1)) (assign c)) no_stmts
+
+-- ---- the unit
+
+-- "," name
+unfoldable pub another_arg : List (List ℕ) → Grammar (List (List ℕ))
+another_arg found = do
+  comma ← one (marked s.Comma)
+  x ← one name
+  gives (found ++ x.name ∷ [])
+
+unfoldable pub more_args : List (List ℕ) → Grammar (List (List ℕ))
+more_args = many (λ found. where_ true (another_arg found))
+
+-- name { "," name }
+unfoldable pub some_args : Grammar (List (List ℕ))
+some_args = do
+  x ← one name
+  more_args (x.name ∷ [])
+
+unfoldable pub listed_args : Grammar (List (List ℕ))
+listed_args = some_args or gives []
+
+-- "(" [ name { "," name } ] ")"
+unfoldable pub bracketed_args : Grammar (List (List ℕ))
+bracketed_args = do
+  open_ ← one (marked s.Open)
+  found ← listed_args
+  close ← one (marked s.Close)
+  gives found
+
+unfoldable pub args : Grammar (List (List ℕ))
+args = bracketed_args or gives []
+
+-- [ "implicit" "none" eol ]
+unfoldable pub implicit : Grammar (Unit {0})
+implicit =
+    (do
+      implicit ← one (marked s.Implicit)
+      none ← one (marked s.NoneWord)
+      eol ← one (marked s.LineEnd)
+      gives tt)
+    or gives tt
+
+-- [ name ] eol
+unfoldable pub closing : List ℕ → Grammar ℕ
+closing bytes =
+    (do
+      same ← one (same_word bytes)
+      one (marked s.LineEnd))
+    or one (marked s.LineEnd)
+
+-- [ "subroutine" [ name ] ] eol
+unfoldable pub after_end : List ℕ → Grammar ℕ
+after_end bytes =
+    (do
+      subroutine ← one (marked s.Subroutine)
+      closing bytes)
+    or one (marked s.LineEnd)
+
+-- "end" [ "subroutine" [ name ] ] eol
+unfoldable pub end_word : List ℕ → Grammar ℕ
+end_word bytes = do
+  end ← one (marked s.End)
+  after_end bytes
+
+-- ("end" [ "subroutine" [ name ] ] | "endsubroutine" [ name ]) eol
+unfoldable pub end_unit : List ℕ → Grammar ℕ
+end_unit bytes =
+    (do
+      end ← one (marked s.EndSubroutine)
+      closing bytes)
+    or end_word bytes
+
+unfoldable pub unit : Limits → Grammar Program
+unit limits = do
+  line ← one (marked s.Subroutine)
+  x ← one word
+  found ← args
+  eol ← one (marked s.LineEnd)
+  said ← implicit
+  ds ← decls limits
+  body ← stmts limits
+  end ← end_unit x.name
+  gives (program line x found ds body)
