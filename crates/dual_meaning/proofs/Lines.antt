@@ -1,13 +1,11 @@
 -- Straight lines compute.
-use Rattle.std.specs.Prelude.{◌≡◌, ℕ, List, [], ◌∷◌, ◌++◌, map, Option, Some, None, refl, codes, Result, Ok, Err, pos}
+use Rattle.std.specs.Prelude.{◌≡◌, ℕ, List, [], ◌∷◌, None, refl, codes, Ok}
 use Rattle.fl_ast.specs.declared.kind.Kind.TheVariants as kind
-use Rattle.fl_ast.specs.declared.decl.Decl.{Decl}
 use Rattle.fl_ast.specs.Tree.{Statements, statement}
-use Rattle.store_core.specs.declared.layout.Shape.{Shape}
-use Rattle.ring_core.specs.Index.{fitted, index_div, index_rem}
+use Rattle.ring_core.specs.Index.{fitted}
 use Rattle.dual_meaning.specs.declared.value.Cause.TheVariants.{Range}
-use Rattle.dual_meaning.specs.Logs.{events, begins, pushes, traps}
-use Rattle.dual_meaning.specs.Sites.{Cells, Site, opening_site}
+use Rattle.dual_meaning.specs.Logs.{events, begins, pushes}
+use Rattle.dual_meaning.specs.Sites.{Site, opening_site}
 use Rattle.dual_meaning.specs.Statements.{run_all}
 use Rattle.dual_meaning.specs.Stops.{first_stop, trapped}
 use Rattle.dual_meaning.specs.Adjoints.{adjoint_at}

@@ -1,12 +1,12 @@
 -- The power of a dual, by one power of its value.
-use Rattle.std.specs.Prelude.{◌≡◌, ℕ, zero, suc, ◌+◌, ◌*◌, ◌-◌, ◌^◌, ◌%◌, ◌<◌, refl}
-use Rattle.std.proofs.Common.{ap, sym, ◌∙◌, subst, arith}
+use Rattle.std.specs.Prelude.{◌≡◌, ℕ, zero, suc, ◌*◌, ◌-◌, ◌^◌, ◌%◌, ◌<◌}
+use Rattle.std.proofs.Common.{ap, sym, ◌∙◌, arith}
 use Rattle.std.proofs.Math.Nat.{pow-suc, pow-zero}
 use Rattle.std.proofs.lemmas.Nat.{mul-mod_first}
 use Rattle.ring_core.specs.Ring.{ring_add, ring_mul, ring_pow}
 use Rattle.ring_core.proofs.Modular.{modular, modulo}
 use Rattle.dual_meaning.specs.declared.value.Dual.{Dual}
-use Rattle.dual_meaning.specs.Values.{dual_mul, dual_pow}
+use Rattle.dual_meaning.specs.Values.{dual_pow}
 
 value_of_pow : (a : Dual) (n : ℕ) → (dual_pow a n).value ≡ ring_pow a.value n
 value_of_pow a zero = ap (λ (m : ℕ). m % 2 ^ 64) (sym (pow-zero a.value))

@@ -1,27 +1,22 @@
 -- The same of statements.
-use Rattle.std.specs.Prelude.{◌≡◌, ℕ, zero, suc, ◌+◌, ℤ, pos, Bool, true, false, ◌&&◌, if◌then◌else◌, List, [], ◌∷◌, Option, Some, None, Result, Ok, Err, refl, slice_set}
-use Rattle.std.proofs.Common.{ap, sym, ◌∙◌}
-use Rattle.std.specs.Int.{w64, cast_unsigned}
+use Rattle.std.specs.Prelude.{◌≡◌, ℕ, zero, suc, ◌+◌, ℤ, Bool, true, false, if◌then◌else◌, List, [], ◌∷◌, Option, Some, None, Result, Ok, Err, refl, slice_set}
 use Rattle.fl_ast.specs.declared.kind.Kind.{Kind}
 use Rattle.fl_ast.specs.declared.kind.Kind.TheVariants as kind
 use Rattle.fl_ast.specs.declared.directive.Directive.{Directive}
-use Rattle.fl_ast.specs.Tree.{Expression, Designator, Condition, Statement, assignment, branch, loop, Statements, no_statements, statement, Arms, no_arms, arm}
+use Rattle.fl_ast.specs.Tree.{Expression, Designator, Statement, assignment, branch, loop, Statements, no_statements, statement, Arms, no_arms, arm}
 use Rattle.fl_types.specs.declared.access.AccessKind.{AccessKind}
 use Rattle.fl_types.specs.declared.access.AccessKind.TheVariants.{Write}
 use Rattle.fl_types.specs.Increment.{Signed, increment_terms}
-use Rattle.fl_types.specs.Sharing.{assigns_in}
-use Rattle.fl_types.specs.Accesses.{increment_kind}
 use Rattle.dual_meaning.specs.declared.value.Dual.{Dual}
 use Rattle.dual_meaning.specs.declared.value.Value.{Value}
 use Rattle.dual_meaning.specs.declared.value.Value.TheVariants.{Index, Ring}
 use Rattle.dual_meaning.specs.declared.value.Cause.{Cause}
-use Rattle.dual_meaning.specs.declared.value.TrapAt.{TrapAt}
-use Rattle.dual_meaning.specs.Values.{dual_add, dual_sub, as_dual, converted, whole, wholes}
-use Rattle.dual_meaning.specs.Logs.{Log, silence, single, sets, both, pushes, ends, traps, instance, turn, iteration, condition, taken, Passage, Told, pure, lift, after, ◌>>=◌, inside, at_line, at_line_by}
+use Rattle.dual_meaning.specs.Values.{dual_add, dual_sub, converted, wholes}
+use Rattle.dual_meaning.specs.Logs.{Log, single, pushes, instance, turn, iteration, condition, taken, Passage, Told, after, inside, at_line, at_line_by}
 use Rattle.dual_meaning.specs.Sites.{Cells, Site, in_turn, in_iteration, place_of, kind_of, word_of}
-use Rattle.dual_meaning.specs.Expressions.{touching, content, value_of, values_of, holds}
-use Rattle.dual_meaning.specs.Statements.{Run, noted, set_log, stored, saving, put, plain, terms_of, grown, grow_cell, grow, increment, assigned, Turns, turns_by, step_value, turns_of, value_at, set_at, set_log_at, setting, turns, loop_words, private_names, unset_all, content_at, private_words, one_turn, one_iteration, run_loop, chosen, in_arm, run, run_all, run_arms}
-use Rattle.dual_meaning.proofs.Trios.{Closed, Duals, Trio, Trios, Outs, Tells, Equals, TrioCell, TrioCells, bind, lifted, pured, dual_trio, add_duals, sub_duals, whole_trio, wholes_trio, content_trio, touching_trio, value_trio, values_trio, holds_trio}
+use Rattle.dual_meaning.specs.Expressions.{content, value_of, values_of}
+use Rattle.dual_meaning.specs.Statements.{Run, noted, set_log, stored, saving, put, plain, terms_of, grown, grow_cell, grow, increment, assigned, Turns, turns_by, step_value, turns_of, value_at, set_at, setting, turns, private_names, unset_all, content_at, private_words, one_turn, one_iteration, run_loop, chosen, in_arm, run, run_all, run_arms}
+use Rattle.dual_meaning.proofs.Trios.{Closed, Duals, Trio, Trios, Outs, Tells, Equals, TrioCell, TrioCells, bind, pured, dual_trio, add_duals, sub_duals, whole_trio, wholes_trio, content_trio, touching_trio, value_trio, values_trio, holds_trio}
 
 -- a run that tells three times the same
 abbrev pub Steady : (ℕ → ℕ → ℕ → Type 0) → Run → Type 0

@@ -1,7 +1,5 @@
 -- What a call answers that resolves names.
-use Rattle.std.specs.Prelude.{◌≡◌, ℕ, Bool, true, false, List, map, length, Result, Ok, Err}
-use Rattle.fl_ast.specs.Tree.{Expression, Expressions, Designator, Condition}
-use Rattle.store_core.specs.declared.layout.Shape.{Shape}
+use Rattle.std.specs.Prelude.{◌≡◌, Bool, true, false, Result, Ok, Err}
 use Rattle.dual_meaning.specs.declared.resolve.ResolveError.{ResolveError}
 use Rattle.dual_meaning.specs.declared.resolve.ResolveError.TheVariants.{Unplaced, Memory}
 

@@ -1,9 +1,9 @@
 -- What statements do, in order, on one thread: the cells after them, and the log.
-use Rattle.std.specs.Prelude.{ℕ, zero, suc, ◌+◌, Bool, true, false, ◌&&◌, if◌then◌else◌, List, [], ◌∷◌, filter, Option, Some, None, Result, Ok, Err, ℤ, pos, ◌+ℤ◌, ◌-ℤ◌, ◌*ℤ◌, slice_set, int_div}
+use Rattle.std.specs.Prelude.{ℕ, zero, suc, ◌+◌, Bool, true, false, ◌&&◌, if◌then◌else◌, List, [], ◌∷◌, filter, Option, Some, None, Ok, Err, ℤ, pos, ◌+ℤ◌, ◌-ℤ◌, ◌*ℤ◌, slice_set, int_div}
 use Rattle.std.specs.Ordering.{int_eq}
 use Rattle.std.specs.Int.{w64, cast_unsigned}
 use Rattle.fl_ast.specs.declared.directive.Directive.{Directive}
-use Rattle.fl_ast.specs.Tree.{Expression, Expressions, Designator, Condition, Statement, assignment, branch, loop, Statements, no_statements, statement, Arms, no_arms, arm}
+use Rattle.fl_ast.specs.Tree.{Expression, Designator, Statement, assignment, branch, loop, Statements, no_statements, statement, Arms, no_arms, arm}
 use Rattle.fl_types.specs.declared.access.AccessKind.{AccessKind}
 use Rattle.fl_types.specs.declared.access.AccessKind.TheVariants.{Write}
 use Rattle.fl_types.specs.Increment.{Signed, increment_terms}

@@ -14,3 +14,6 @@ pub use laws::{conflict_is_reported, tangents_are_linear, tangents_are_unseen};
 pub use resolve::{ResolveError, resolve_expression, resolve_place, resolve_test};
 pub use resolved::{Code, Spot, Test};
 pub use value::{Cause, Dual, TrapAt, Value};
+
+#[cfg(test)]
+mod tests;

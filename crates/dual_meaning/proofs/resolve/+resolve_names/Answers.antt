@@ -17,4 +17,5 @@ pub resolve_place-returns-in_ok-subscripts-in-Some : goal.resolve_place-returns-
 resolve_place-returns-in_ok-subscripts-in-Some t c = (
   search (rules, code_lemmas, expr_lemmas, designators, slot_stands),
   search (rules, code_lemmas, lt-ltb, and_from),
-  search (rules, expr_lemmas, found_some, and_from))
+  search (rules, expr_lemmas, found_some, and_from),
+)
