@@ -1,14 +1,14 @@
 -- Expressions are read exactly.
-use Rattle.std.proofs.Common.{◌≡◌, ℕ, zero, suc, ◌<◌, Bool, true, false, cond, List, [], ◌∷◌, refl, sym, ap, ◌∙◌, ◌⊎◌, inl, inr, arith}
+use Rattle.std.proofs.Common.{◌≡◌, ℕ, zero, suc, Bool, true, false, cond, [], ◌∷◌, refl, sym, ◌⊎◌, inl, inr, arith}
 use Rattle.parsing.specs.declared.symbol.Symbol.{Symbol}
 use Rattle.parsing.specs.declared.symbol.Symbol.TheVariants as s
 use Rattle.parsing.specs.declared.fault.Cause.TheVariants.{Deep}
 use Rattle.parsing.specs.Freed.{Freed, Frees, frees}
 use Rattle.parsing.specs.Freed.Freed.{Nothing}
 use Rattle.parsing.specs.Limit.{Limit, allows, less as fewer}
-use Rattle.parsing.specs.Terminal.{same, on, is, reads, names, numbers, name, number}
-use Rattle.parsing.specs.Reading.{Lexemes, Parser, sees, refuse}
-use Rattle.parsing.specs.Grammar.{Grammar, gives, one, ◌or◌, many, ◌>>=◌ as ◌⨟◌}
+use Rattle.parsing.specs.Terminal.{same, on, is, reads, names, numbers}
+use Rattle.parsing.specs.Reading.{Parser}
+use Rattle.parsing.specs.Grammar.{Grammar, ◌or◌}
 use Rattle.fl_ast.specs.declared.kind.BinOp.TheVariants.{Add, Mul}
 use Rattle.fl_parser.specs.declared.tree.Measured.{Measured}
 use Rattle.fl_parser.specs.Terminals.{sum_op_by, product_op_by, is_sum_op, is_product_op}
@@ -16,10 +16,10 @@ use Rattle.fl_parser.specs.Trees.{literal, scalar, negation, binary}
 use Rattle.fl_parser.specs.Wide.{More}
 use Rattle.fl_parser.specs.ExprGrammar as g
 use Rattle.fl_parser.specs.ExprReading as p
-use Rattle.parsing.proofs.Outcomes.{never, sees-never, which, differ, Shrinks, shrinks_pure, shrinks_refuse, shrinks_seq, Bites}
+use Rattle.parsing.proofs.Outcomes.{never, sees-never, which, differ, Shrinks, shrinks_pure, shrinks_seq, Bites}
 use Rattle.parsing.proofs.Exact.{Exact, Room, always_room, room_of, frees_less, Begins, Meets, pure_exact, seq, either_within, shrinks_token}
-use Rattle.parsing.proofs.Rules.{narrow, anywhere, either, mapped, loop_exact, many_meets, begins_seq, begins_or, begins_where, meets_never}
-use Rattle.parsing.proofs.OnSymbols.{apart, less, among, meets, begins_in, begins_mark, begins_name, begins_number, begins_by, mark_exact, name_exact, number_exact, by_exact, mark_then, bites_mark, bites_by}
+use Rattle.parsing.proofs.Rules.{either, mapped, loop_exact, many_meets, begins_seq, begins_or, begins_where, meets_never}
+use Rattle.parsing.proofs.OnSymbols.{apart, less, among, meets, begins_in, begins_mark, begins_name, begins_number, begins_by, name_exact, number_exact, by_exact, mark_then, bites_mark, bites_by}
 
 -- what goes on with a term
 abbrev pub multiplies : Symbol → Bool
@@ -32,11 +32,10 @@ binds = among (s.Plus ∷ s.Minus ∷ s.Star ∷ s.Slash ∷ [])
 module _ (l : Freed) (open_ open2 : Bool) (room : Room l Deep open_ open2) (ig : Limit → Grammar Measured) (ip ip2 : Limit → Parser Measured)
     (inner : open_ ≡ true → (d d2 : Limit) → Frees l Deep d d2 → Exact l (ig d) (on binds) (ip d) (ip2 d2))
     (inner_shrinks : open2 ≡ true → (d : Limit) → Shrinks (ip2 d)) where
-
   bracketed_exact : (d d2 : Limit) → Frees l Deep d d2 → open_ ≡ true → Exact l (g.bracketed open_ ig d) never (p.bracketed open_ ip d) (p.bracketed open2 ip2 d2)
   unfolding g.bracketed p.bracketed
   bracketed_exact d d2 F so =
-    mark_then s.Open _ _ _ (λ _. seq (inner so d d2 F) (λ e. mark_then s.Close _ _ _ (λ _. pure_exact e))
+      mark_then s.Open _ _ _ (λ _. seq (inner so d d2 F) (λ e. mark_then s.Close _ _ _ (λ _. pure_exact e))
       (λ e. meets (same s.Close) binds never _ (begins_seq _ (begins_mark s.Close)) refl refl))
 
   bracketed_begins : (d : Limit) → Begins (g.bracketed open_ ig d) (is s.Open)
@@ -75,15 +74,15 @@ module _ (l : Freed) (open_ open2 : Bool) (room : Room l Deep open_ open2) (ig :
   primary_exact : (d d2 : Limit) → Frees l Deep d d2 → Exact l (g.primary open_ ig d) never (p.primary open_ ip d) (p.primary open2 ip2 d2)
   unfolding g.primary p.primary
   primary_exact d d2 F =
-    either_within open_ open2 Deep room (bracketed_exact d d2 F) (λ _ so. bracketed_bites d2 so)
+      either_within open_ open2 Deep room (bracketed_exact d d2 F) (λ _ so. bracketed_bites d2 so)
       (either scalar_exact literal_exact scalar_begins (meets numbers names never _ literal_begins refl refl))
       (bracketed_begins d) (meets plain (same s.Open) never _ plain_begins refl refl)
 
   primary_begins : (d : Limit) → Begins (g.primary open_ ig d) (on operand)
   unfolding g.primary
   primary_begins d = begins_or _ _ (on operand)
-    (begins_where open_ _ _ (begins_in (same s.Open) operand _ (bracketed_begins d) refl refl))
-    (begins_in plain operand _ plain_begins refl refl)
+      (begins_where open_ _ _ (begins_in (same s.Open) operand _ (bracketed_begins d) refl refl))
+      (begins_in plain operand _ plain_begins refl refl)
 
   factor_exact : (d d2 : Limit) → Frees l Deep d d2 → Exact l (g.factor open_ ig d) never (p.factor open_ ip d) (p.factor open2 ip2 d2)
   unfolding g.factor p.factor
@@ -108,8 +107,8 @@ module _ (l : Freed) (open_ open2 : Bool) (room : Room l Deep open_ open2) (ig :
   factors_exact : (d d2 : Limit) → Frees l Deep d d2 → (x : Measured) → Exact l (g.factors_from open_ ig d x) (on multiplies) (p.factors_from open_ ip d x) (p.factors_from open2 ip2 d2 x)
   unfolding g.factors_from p.factors_from
   factors_exact d d2 F = loop_exact l is_product_op never (on multiplies) (λ x. allows d x.depth) (λ x. allows d2 x.depth) Deep _ _ _
-    (λ x. room_of F x.depth) (times_one_exact d d2 F) (times_one_begins d) (times_one_bites d d2 F)
-    (λ rest h. sees-never rest) (λ rest h. h) (λ rest h. sees-never rest)
+      (λ x. room_of F x.depth) (times_one_exact d d2 F) (times_one_begins d) (times_one_bites d d2 F)
+      (λ rest h. sees-never rest) (λ rest h. h) (λ rest h. sees-never rest)
 
   term_exact : (d d2 : Limit) → Frees l Deep d d2 → Exact l (g.term open_ ig d) (on multiplies) (p.term open_ ip d) (p.term open2 ip2 d2)
   unfolding g.term p.term
@@ -134,19 +133,19 @@ module _ (l : Freed) (open_ open2 : Bool) (room : Room l Deep open_ open2) (ig :
   terms_exact : (d d2 : Limit) → Frees l Deep d d2 → (x : Measured) → Exact l (g.terms_from open_ ig d x) (on binds) (p.terms_from open_ ip d x) (p.terms_from open2 ip2 d2 x)
   unfolding g.terms_from p.terms_from
   terms_exact d d2 F = loop_exact l is_sum_op (on multiplies) (on binds) (λ x. allows d x.depth) (λ x. allows d2 x.depth) Deep _ _ _
-    (λ x. room_of F x.depth) (plus_one_exact d d2 F) (plus_one_begins d) (plus_one_bites d d2 F)
-    (less multiplies binds refl refl) (less (reads sum_op_by) binds refl refl) (apart (reads sum_op_by) multiplies refl refl)
+      (λ x. room_of F x.depth) (plus_one_exact d d2 F) (plus_one_begins d) (plus_one_bites d d2 F)
+      (less multiplies binds refl refl) (less (reads sum_op_by) binds refl refl) (apart (reads sum_op_by) multiplies refl refl)
 
   terms_meet : (d d2 : Limit) → Frees l Deep d d2 → (x : Measured) → Meets (g.terms_from open_ ig d x) (on multiplies) (on binds)
   unfolding g.terms_from p.terms_from
   terms_meet d d2 F = many_meets l is_sum_op (on multiplies) (on binds) (λ x. allows d x.depth) (λ x. allows d2 x.depth) Deep (g.plus_one open_ ig d) (p.plus_one open_ ip d) (p.plus_one open2 ip2 d2)
-    (λ x. room_of F x.depth) (plus_one_exact d d2 F) (plus_one_begins d) (plus_one_bites d d2 F)
-    (less multiplies binds refl refl) (less (reads sum_op_by) binds refl refl) (apart (reads sum_op_by) multiplies refl refl)
+      (λ x. room_of F x.depth) (plus_one_exact d d2 F) (plus_one_begins d) (plus_one_bites d d2 F)
+      (less multiplies binds refl refl) (less (reads sum_op_by) binds refl refl) (apart (reads sum_op_by) multiplies refl refl)
 
   negated_exact : (d d2 : Limit) → Frees l Deep d d2 → Exact l (g.negated open_ ig d) (on binds) (p.negated open_ ip d) (p.negated open2 ip2 d2)
   unfolding g.negated p.negated
   negated_exact d d2 F =
-    mark_then s.Minus _ _ _ (λ _. seq (term_exact (fewer d) (fewer d2) (frees_less F)) (λ e. terms_exact d d2 F (negation e)) (λ e. terms_meet d d2 F (negation e)))
+      mark_then s.Minus _ _ _ (λ _. seq (term_exact (fewer d) (fewer d2) (frees_less F)) (λ e. terms_exact d d2 F (negation e)) (λ e. terms_meet d d2 F (negation e)))
 
   negated_begins : (d : Limit) → Begins (g.negated open_ ig d) (is s.Minus)
   unfolding g.negated
@@ -181,7 +180,7 @@ module _ (l : Freed) (open_ open2 : Bool) (room : Room l Deep open_ open2) (ig :
   pub sum_exact : (d d2 : Limit) → Frees l Deep d d2 → Exact l (g.sum open_ ig d) (on binds) (p.sum open_ ip d) (p.sum open2 ip2 d2)
   unfolding g.sum p.sum
   sum_exact d d2 F =
-    either_within (allows d 1) (allows d2 1) Deep (room_of F 1) (λ _. negated_exact d d2 F) (λ _ _. negated_bites d d2 F)
+      either_within (allows d 1) (allows d2 1) Deep (room_of F 1) (λ _. negated_exact d d2 F) (λ _ _. negated_bites d d2 F)
       (either (plain_exact d d2 F) (unsigned_exact d d2 F) (plus_begins d) (meets operand (same s.Plus) (on binds) _ (unsigned_begins d) refl refl))
       (negated_begins d) (meets positive (same s.Minus) (on binds) _ (positive_begins d) refl refl)
 

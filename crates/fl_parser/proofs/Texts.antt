@@ -1,9 +1,9 @@
 -- What the parser answers, against the grammar.
-use Rattle.std.proofs.Common.{◌≡◌, ◌≢◌, ℕ, ◌+◌, ◌<◌, Bool, true, false, List, map, Some, None, Result, Ok, Err, refl, sym, ap, subst, ◌∙◌, lit<, arith}
+use Rattle.std.proofs.Common.{◌≡◌, ◌≢◌, ℕ, ◌<◌, true, false, List, map, Some, None, Result, Ok, Err, refl, sym, ap, ◌∙◌, lit<}
 use Rattle.std.specs.Prelude.{IfOk, IfErr}
 use Rattle.fl_base.specs.Finds.{Finds}
 use Rattle.tokens.specs.declared.Token.{Token}
-use Rattle.tokens.specs.Lexeme.{Lexeme, lexeme}
+use Rattle.tokens.specs.Lexeme.{lexeme}
 use Rattle.fl_ast.specs.declared.stmt.Program.{Program}
 use Rattle.parsing.specs.declared.fault.Cause.{Cause}
 use Rattle.parsing.specs.declared.fault.Cause.TheVariants.{Expected, Deep, Many}
@@ -12,7 +12,7 @@ use Rattle.parsing.specs.Freed.{Freed, Frees, frees}
 use Rattle.parsing.specs.Freed.Freed.{Nothing, Counts, All}
 use Rattle.parsing.specs.Limit.{Limit}
 use Rattle.parsing.specs.Reading.{Lexemes}
-use Rattle.parsing.specs.Refusal.{Refused_at, Goes_past, all_of}
+use Rattle.parsing.specs.Refusal.{all_of}
 use Rattle.fl_parser.specs.declared.error.ParseError.{ParseError}
 use Rattle.fl_parser.specs.declared.error.ParseError.TheVariants.{Memory}
 use Rattle.fl_parser.specs.Parsed.{error_of, placed, parsed}
@@ -43,7 +43,7 @@ at_all limits = record {
   brackets = record { stays = λ _. refl; goes = λ h. differ true refl (sym h) };
   beneath = same_limit Deep limits.beneath;
   statements = same_limit Many limits.statements;
-  names = same_limit Many limits.names
+  names = same_limit Many limits.names;
 }
 
 to_uncounted : Widens Counts the_limits uncounted
@@ -51,7 +51,7 @@ to_uncounted = record {
   brackets = record { stays = λ _. refl; goes = λ h. differ true refl (sym h) };
   beneath = kept Counts Deep (Some 63) refl;
   statements = gone Counts Many (Some 4096) refl;
-  names = gone Counts Many (Some 512) refl
+  names = gone Counts Many (Some 512) refl;
 }
 
 to_unlimited : (b : ℕ) → 256 < b → Widens All the_limits (unlimited b)
@@ -59,7 +59,7 @@ to_unlimited b h = record {
   brackets = more All 256 b refl h;
   beneath = gone All Deep (Some 63) refl;
   statements = gone All Many (Some 4096) refl;
-  names = gone All Many (Some 512) refl
+  names = gone All Many (Some 512) refl;
 }
 
 reads_limits : Exact Nothing (g.unit the_limits) never (p.unit the_limits) (p.unit the_limits)
@@ -73,14 +73,15 @@ reads_unlimited b = unit_exact Nothing (unlimited b) (unlimited b) (at_all (unli
 
 told : (ts : Lexemes) (f : Fault) → all_of (p.unit the_limits ts) ≡ Err f → (cause : Cause) → f.cause ≡ cause → Told cause ts f.left
 told ts f e Expected c = λ b h. unfreed All Nothing (g.unit the_limits) (g.unit (unlimited b)) never (p.unit the_limits) (p.unit (unlimited b)) (p.unit (unlimited b))
-  (unit_exact All the_limits (unlimited b) (to_unlimited b h)) (reads_unlimited b) ts f e (ap (frees All) c)
-told ts f e Deep c =
-  (unfreed Counts Nothing (g.unit the_limits) (g.unit uncounted) never (p.unit the_limits) (p.unit uncounted) (p.unit uncounted)
-    (unit_exact Counts the_limits uncounted to_uncounted) reads_uncounted ts f e (ap (frees Counts) c),
-   freed All Nothing (g.unit the_limits) (g.unit (unlimited 257)) never (p.unit the_limits) (p.unit (unlimited 257)) (p.unit (unlimited 257))
-    (unit_exact All the_limits (unlimited 257) (to_unlimited 257 (lit< tt))) (reads_unlimited 257) ts f e (ap (frees All) c))
+    (unit_exact All the_limits (unlimited b) (to_unlimited b h)) (reads_unlimited b) ts f e (ap (frees All) c)
+told ts f e Deep c = (
+  unfreed Counts Nothing (g.unit the_limits) (g.unit uncounted) never (p.unit the_limits) (p.unit uncounted) (p.unit uncounted)
+      (unit_exact Counts the_limits uncounted to_uncounted) reads_uncounted ts f e (ap (frees Counts) c),
+  freed All Nothing (g.unit the_limits) (g.unit (unlimited 257)) never (p.unit the_limits) (p.unit (unlimited 257)) (p.unit (unlimited 257))
+      (unit_exact All the_limits (unlimited 257) (to_unlimited 257 (lit< tt))) (reads_unlimited 257) ts f e (ap (frees All) c),
+)
 told ts f e Many c = freed Counts Nothing (g.unit the_limits) (g.unit uncounted) never (p.unit the_limits) (p.unit uncounted) (p.unit uncounted)
-  (unit_exact Counts the_limits uncounted to_uncounted) reads_uncounted ts f e (ap (frees Counts) c)
+    (unit_exact Counts the_limits uncounted to_uncounted) reads_uncounted ts f e (ap (frees Counts) c)
 
 placed_ok : (text : List ℕ) (tokens : List Token) (o : Result Program Fault) (x : Program) → placed text tokens o ≡ Ok x → o ≡ Ok x
 placed_ok text tokens (Ok y) x e = same y x e
@@ -102,21 +103,22 @@ found_by text tokens (Ok x) h = found Nothing (g.unit the_limits) never (p.unit 
 found_by text tokens (Err e) h = tt
 
 pub only_by : (text : List ℕ) (tokens : List Token) (r : Result Program ParseError) → Finds (λ p. p) Memory (parsed text tokens) r →
-  (x : Program) → g.unit the_limits x (map (lexeme text) tokens) → Finds (λ p. p) Memory (Ok x) r
+    (x : Program) → g.unit the_limits x (map (lexeme text) tokens) → Finds (λ p. p) Memory (Ok x) r
 unfolding parsed
 only_by text tokens r h x n = by r h
   where
     is_x : parsed text tokens ≡ Ok x
     is_x = ap (placed text tokens) (only Nothing (g.unit the_limits) never (p.unit the_limits) (p.unit the_limits) reads_limits (map (lexeme text) tokens) x n)
+
     by : (r : Result Program ParseError) → Finds (λ p. p) Memory (parsed text tokens) r → Finds (λ p. p) Memory (Ok x) r
     by (Ok y) h = sym is_x ∙ h
     by (Err e) h = λ some_. sym is_x ∙ h some_
 
 pub refused_by : (text : List ℕ) (tokens : List Token) (r : Result Program ParseError) → Finds (λ p. p) Memory (parsed text tokens) r →
-  IfErr r (λ e. e ≢ Memory → Refuses text tokens e)
+    IfErr r (λ e. e ≢ Memory → Refuses text tokens e)
 unfolding parsed
 refused_by text tokens (Ok x) h = tt
 refused_by text tokens (Err e) h = λ some_.
-  let k = placed_err text tokens _ e (h some_) in
-  let ts = map (lexeme text) tokens in
-  (k.0, k.2, refused Nothing (g.unit the_limits) never (p.unit the_limits) (p.unit the_limits) reads_limits ts k.0 k.1, told ts k.0 k.1 k.0.cause refl)
+    let k = placed_err text tokens _ e (h some_) in
+    let ts = map (lexeme text) tokens in
+    (k.0, k.2, refused Nothing (g.unit the_limits) never (p.unit the_limits) (p.unit the_limits) reads_limits ts k.0 k.1, told ts k.0 k.1 k.0.cause refl)

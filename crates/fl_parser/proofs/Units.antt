@@ -1,14 +1,14 @@
 -- A unit is read exactly.
-use Rattle.std.proofs.Common.{◌≡◌, ℕ, ◌+◌, Bool, true, false, cond, List, [], ◌∷◌, ◌++◌, length, refl, sym, ap, ◌∙◌, inl, inr}
+use Rattle.std.proofs.Common.{◌≡◌, ℕ, ◌+◌, Bool, true, cond, List, [], ◌∷◌, ◌++◌, length, refl, inl, inr}
 use Rattle.parsing.specs.declared.symbol.Symbol.{Symbol}
 use Rattle.parsing.specs.declared.symbol.Symbol.TheVariants as s
 use Rattle.parsing.specs.declared.cursor.Word.{Word}
-use Rattle.parsing.specs.declared.fault.Cause.TheVariants.{Expected, Deep, Many}
-use Rattle.parsing.specs.Freed.{Freed, Frees}
+use Rattle.parsing.specs.declared.fault.Cause.TheVariants.{Expected, Many}
+use Rattle.parsing.specs.Freed.{Freed}
 use Rattle.parsing.specs.Limit.{allows}
-use Rattle.parsing.specs.Terminal.{same, on, is, reads, names, words, same_word}
-use Rattle.parsing.specs.Reading.{Lexemes, Parser, sees}
-use Rattle.parsing.specs.Grammar.{Grammar, gives, one, ◌or◌, many, ◌>>=◌ as ◌⨟◌}
+use Rattle.parsing.specs.Terminal.{same, on, is, reads, names, words}
+use Rattle.parsing.specs.Reading.{Lexemes, sees}
+use Rattle.parsing.specs.Grammar.{Grammar, gives, ◌>>=◌ as ◌⨟◌}
 use Rattle.fl_ast.specs.declared.kind.Kind.{Kind}
 use Rattle.fl_ast.specs.declared.kind.Kind.TheVariants.{Index}
 use Rattle.fl_ast.specs.declared.kind.Intent.{Intent}
@@ -18,14 +18,12 @@ use Rattle.fl_parser.specs.declared.stmt.Counted.{Counted}
 use Rattle.fl_parser.specs.Terminals.{kind_by}
 use Rattle.fl_parser.specs.Trees.{Limits, declared, assigned, no_stmts, program}
 use Rattle.fl_parser.specs.Wide.{Widens}
-use Rattle.fl_parser.specs.ExprGrammar as ge
-use Rattle.fl_parser.specs.ExprReading as pe
 use Rattle.fl_parser.specs.UnitGrammar as g
 use Rattle.fl_parser.specs.UnitReading as p
-use Rattle.parsing.proofs.Outcomes.{never, sees-never, Shrinks, shrinks_pure, shrinks_seq, Bites}
+use Rattle.parsing.proofs.Outcomes.{never, sees-never, shrinks_pure, shrinks_seq, Bites}
 use Rattle.parsing.proofs.Exact.{Exact, always_room, room_of, Begins, Meets, pure_exact, seq, shrinks_token}
-use Rattle.parsing.proofs.Rules.{narrow, anywhere, either, optional, mapped, loop_exact, begins_seq, begins_or, begins_where, begins_opens, Opens, opens_or, opens_gives, opens_begins, opens_many, meets_never, gives_meets, meets_or}
-use Rattle.parsing.proofs.OnSymbols.{apart, less, wider, among, meets, begins_in, begins_mark, begins_name, begins_by, begins_same_word, mark_exact, name_exact, word_exact, same_word_exact, by_exact, mark_then, bites_mark, bites_name}
+use Rattle.parsing.proofs.Rules.{narrow, anywhere, either, optional, loop_exact, begins_seq, begins_or, begins_opens, Opens, opens_or, opens_gives, opens_begins, opens_many, meets_never, gives_meets, meets_or}
+use Rattle.parsing.proofs.OnSymbols.{less, wider, among, meets, begins_in, begins_mark, begins_name, begins_by, begins_same_word, mark_exact, name_exact, word_exact, same_word_exact, by_exact, mark_then, bites_mark, bites_name}
 use Rattle.fl_parser.proofs.Exprs.{binds, expr_exact}
 
 -- ---- declarations
@@ -37,7 +35,7 @@ kind_word_exact l = optional tt (anywhere (mark_then s.Kind _ _ _ (λ _. mark_th
 kind_brackets_exact : (l : Freed) → Exact l g.kind_brackets never p.kind_brackets p.kind_brackets
 unfolding g.kind_brackets p.kind_brackets
 kind_brackets_exact l =
-  mark_then s.Open _ _ _ (λ _. seq (kind_word_exact l) (λ _. seq (by_exact kind_by s.Four Index refl) (λ k. mark_then s.Close _ _ _ (λ _. pure_exact k)) (λ k. meets_never never _))
+    mark_then s.Open _ _ _ (λ _. seq (kind_word_exact l) (λ _. seq (by_exact kind_by s.Four Index refl) (λ k. mark_then s.Close _ _ _ (λ _. pure_exact k)) (λ k. meets_never never _))
     (λ _. meets (reads kind_by) (same s.Kind) never _ (begins_seq _ (begins_by kind_by)) refl refl))
 
 kind_brackets_begins : Begins g.kind_brackets (is s.Open)
@@ -59,7 +57,7 @@ inward_begins = begins_seq _ (begins_mark s.In)
 outward_exact : (l : Freed) → Exact l g.outward never p.outward p.outward
 unfolding g.outward p.outward
 outward_exact l = either (mark_then s.Out _ _ _ (λ _. pure_exact WriteOnly)) (mark_then s.InOut _ _ _ (λ _. pure_exact Both)) (begins_seq _ (begins_mark s.Out))
-  (meets (same s.InOut) (same s.Out) never _ (begins_seq _ (begins_mark s.InOut)) refl refl)
+    (meets (same s.InOut) (same s.Out) never _ (begins_seq _ (begins_mark s.InOut)) refl refl)
 
 abbrev outs : Symbol → Bool
 outs = among (s.Out ∷ s.InOut ∷ [])
@@ -75,7 +73,7 @@ direction_exact l = either (inward_exact l) (anywhere (outward_exact l)) inward_
 intent_list_exact : (l : Freed) → Exact l g.intent_list never p.intent_list p.intent_list
 unfolding g.intent_list p.intent_list
 intent_list_exact l =
-  mark_then s.Comma _ _ _ (λ _. mark_then s.Intent _ _ _ (λ _. mark_then s.Open _ _ _ (λ _. seq (direction_exact l)
+    mark_then s.Comma _ _ _ (λ _. mark_then s.Intent _ _ _ (λ _. mark_then s.Open _ _ _ (λ _. seq (direction_exact l)
     (λ i. mark_then s.Close _ _ _ (λ _. mark_then s.Colons _ _ _ (λ _. pure_exact i)))
     (λ i. meets (same s.Close) (same s.Out) never _ (begins_seq _ (begins_mark s.Close)) refl refl))))
 
@@ -98,7 +96,7 @@ colons_opens = opens_or _ _ (on intents) (opens_begins _ (on intents) (begins_in
 colons_meet : Meets g.colons (is s.Comma) (on intents)
 unfolding g.colons
 colons_meet = meets_or _ _ (is s.Comma) (on intents) (meets (same s.Colons) (same s.Comma) (on intents) _ (begins_seq _ (begins_mark s.Colons)) refl refl)
-  (gives_meets Unsaid (is s.Comma) (on intents) (less (same s.Comma) intents refl refl))
+    (gives_meets Unsaid (is s.Comma) (on intents) (less (same s.Comma) intents refl refl))
 
 intent_exact : (l : Freed) → Exact l g.intent (on intents) p.intent p.intent
 unfolding g.intent p.intent
@@ -134,8 +132,8 @@ module _ (l : Freed) (limits wide : Limits) (W : Widens l limits wide) where
   items_exact : (line : ℕ) (k : Kind) (i : Intent) (ds : List Decl) → Exact l (g.items limits line k i ds) (is s.Comma) (p.items limits line k i ds) (p.items wide line k i ds)
   unfolding g.items p.items
   items_exact line k i = loop_exact l (is s.Comma) never (is s.Comma) (g.may_declare limits) (g.may_declare wide) Many _ _ _
-    (λ ds. room_of W.names (length ds + 1)) (another_item_exact line k i) (another_item_begins line k i) (another_item_bites line k i)
-    (λ rest h. sees-never rest) (λ rest h. h) (λ rest h. sees-never rest)
+      (λ ds. room_of W.names (length ds + 1)) (another_item_exact line k i) (another_item_begins line k i) (another_item_bites line k i)
+      (λ rest h. sees-never rest) (λ rest h. h) (λ rest h. sees-never rest)
 
   items_open : (line : ℕ) (k : Kind) (i : Intent) (ds : List Decl) → Opens (g.items limits line k i ds) (is s.Comma)
   unfolding g.items
@@ -145,13 +143,13 @@ module _ (l : Freed) (limits wide : Limits) (W : Widens l limits wide) where
   decl_exact : (ds : List Decl) → Exact l (g.decl limits ds) never (p.decl limits ds) (p.decl wide ds)
   unfolding g.decl p.decl
   decl_exact ds = mark_then s.Integer _ _ _ (λ line. seq (kind_exact l)
-    (λ k. seq (intent_exact l)
+      (λ k. seq (intent_exact l)
       (λ i. seq name_exact
-        (λ x. seq (items_exact line k i (declared ds line k i x)) (λ found. mark_then s.LineEnd _ _ _ (λ _. pure_exact found))
-          (λ found. meets (same s.LineEnd) (same s.Comma) never _ (begins_seq _ (begins_mark s.LineEnd)) refl refl))
-        (λ x. meets_never never _))
+      (λ x. seq (items_exact line k i (declared ds line k i x)) (λ found. mark_then s.LineEnd _ _ _ (λ _. pure_exact found))
+      (λ found. meets (same s.LineEnd) (same s.Comma) never _ (begins_seq _ (begins_mark s.LineEnd)) refl refl))
+      (λ x. meets_never never _))
       (λ i. meets names intents never _ (begins_seq _ begins_name) refl refl))
-    (λ k. meets heads (same s.Open) never _
+      (λ k. meets heads (same s.Open) never _
       (begins_opens g.intent _ (on heads) opens_heads (λ i. begins_in names heads _ (begins_seq _ begins_name) refl refl)) refl refl))
 
   decl_begins : (ds : List Decl) → Begins (g.decl limits ds) (is s.Integer)
@@ -161,13 +159,13 @@ module _ (l : Freed) (limits wide : Limits) (W : Widens l limits wide) where
   decl_bites : (ds : List Decl) → Bites (p.decl wide ds) (is s.Integer)
   unfolding p.decl
   decl_bites ds = bites_mark s.Integer _ (λ line. shrinks_seq _ _ ((kind_exact l).shrinks) (λ k. shrinks_seq _ _ ((intent_exact l).shrinks) (λ i. shrinks_seq _ _ (shrinks_token _)
-    (λ x. shrinks_seq _ _ ((items_exact line k i (declared ds line k i x)).shrinks) (λ found. shrinks_seq _ _ (shrinks_token _) (λ _. shrinks_pure found))))))
+      (λ x. shrinks_seq _ _ ((items_exact line k i (declared ds line k i x)).shrinks) (λ found. shrinks_seq _ _ (shrinks_token _) (λ _. shrinks_pure found))))))
 
   decls_exact : Exact l (g.decls limits) (is s.Integer) (p.decls limits) (p.decls wide)
   unfolding g.decls p.decls
   decls_exact = loop_exact l (is s.Integer) never (is s.Integer) (g.may_declare limits) (g.may_declare wide) Many _ _ _
-    (λ ds. room_of W.names (length ds + 1)) decl_exact decl_begins decl_bites
-    (λ rest h. sees-never rest) (λ rest h. h) (λ rest h. sees-never rest) []
+      (λ ds. room_of W.names (length ds + 1)) decl_exact decl_begins decl_bites
+      (λ rest h. sees-never rest) (λ rest h. h) (λ rest h. sees-never rest) []
 
   decls_open : Opens (g.decls limits) (is s.Integer)
   unfolding g.decls
@@ -180,7 +178,7 @@ module _ (l : Freed) (limits wide : Limits) (W : Widens l limits wide) where
   assign_exact c = seq name_exact (λ x. mark_then s.Equals _ _ _ (λ _. seq (expr_exact l limits.brackets wide.brackets W.brackets limits.beneath wide.beneath W.beneath)
       (λ e. mark_then s.LineEnd _ _ _ (λ _. pure_exact (assigned c x e)))
       (λ e. meets (same s.LineEnd) binds never _ (begins_seq _ (begins_mark s.LineEnd)) refl refl)))
-    (λ x. meets_never never _)
+      (λ x. meets_never never _)
 
   assign_begins : (c : Counted) → Begins (g.assign limits c) (on names)
   unfolding g.assign
@@ -189,13 +187,13 @@ module _ (l : Freed) (limits wide : Limits) (W : Widens l limits wide) where
   assign_bites : (c : Counted) → Bites (p.assign wide c) (on names)
   unfolding p.assign
   assign_bites c = bites_name _ (λ x. shrinks_seq _ _ (shrinks_token _) (λ _. shrinks_seq _ _ ((expr_exact l limits.brackets wide.brackets W.brackets limits.beneath wide.beneath W.beneath).shrinks)
-    (λ e. shrinks_seq _ _ (shrinks_token _) (λ _. shrinks_pure (assigned c x e)))))
+      (λ e. shrinks_seq _ _ (shrinks_token _) (λ _. shrinks_pure (assigned c x e)))))
 
   stmts_exact : Exact l (g.stmts limits) (on names) (p.stmts limits) (p.stmts wide)
   unfolding g.stmts p.stmts
   stmts_exact = loop_exact l (on names) never (on names) (λ c. allows limits.statements (c.count + 1)) (λ c. allows wide.statements (c.count + 1)) Many _ _ _
-    (λ c. room_of W.statements (c.count + 1)) assign_exact assign_begins assign_bites
-    (λ rest h. sees-never rest) (λ rest h. h) (λ rest h. sees-never rest) no_stmts
+      (λ c. room_of W.statements (c.count + 1)) assign_exact assign_begins assign_bites
+      (λ rest h. sees-never rest) (λ rest h. h) (λ rest h. sees-never rest) no_stmts
 
   stmts_open : Opens (g.stmts limits) (on names)
   unfolding g.stmts
@@ -218,7 +216,7 @@ another_arg_bites found = bites_mark s.Comma _ (λ _. shrinks_seq _ _ (shrinks_t
 more_args_exact : (l : Freed) (found : List (List ℕ)) → Exact l (g.more_args found) (is s.Comma) (p.more_args found) (p.more_args found)
 unfolding g.more_args p.more_args
 more_args_exact l = loop_exact l (is s.Comma) never (is s.Comma) (λ _. true) (λ _. true) Expected _ _ _
-  (λ _. always_room) (another_arg_exact l) another_arg_begins another_arg_bites (λ rest h. sees-never rest) (λ rest h. h) (λ rest h. sees-never rest)
+    (λ _. always_room) (another_arg_exact l) another_arg_begins another_arg_bites (λ rest h. sees-never rest) (λ rest h. h) (λ rest h. sees-never rest)
 
 some_args_exact : (l : Freed) → Exact l g.some_args (is s.Comma) p.some_args p.some_args
 unfolding g.some_args p.some_args
@@ -239,7 +237,7 @@ listed_args_exact l = optional [] (narrow (some_args_exact l) (less (same s.Comm
 bracketed_args_exact : (l : Freed) → Exact l g.bracketed_args never p.bracketed_args p.bracketed_args
 unfolding g.bracketed_args p.bracketed_args
 bracketed_args_exact l = mark_then s.Open _ _ _ (λ _. seq (listed_args_exact l) (λ found. mark_then s.Close _ _ _ (λ _. pure_exact found))
-  (λ found. meets (same s.Close) listing never _ (begins_seq _ (begins_mark s.Close)) refl refl))
+    (λ found. meets (same s.Close) listing never _ (begins_seq _ (begins_mark s.Close)) refl refl))
 
 bracketed_args_begins : Begins g.bracketed_args (is s.Open)
 unfolding g.bracketed_args
@@ -252,17 +250,17 @@ args_exact l = optional [] (anywhere (bracketed_args_exact l)) bracketed_args_be
 implicit_exact : (l : Freed) → Exact l g.implicit (is s.Implicit) p.implicit p.implicit
 unfolding g.implicit p.implicit
 implicit_exact l = optional tt (anywhere (mark_then s.Implicit _ _ _ (λ _. mark_then s.NoneWord _ _ _ (λ _. mark_then s.LineEnd _ _ _ (λ _. pure_exact tt)))))
-  (begins_seq _ (begins_mark s.Implicit)) (λ rest h. h)
+    (begins_seq _ (begins_mark s.Implicit)) (λ rest h. h)
 
 closing_exact : (l : Freed) (bytes : List ℕ) → Exact l (g.closing bytes) never (p.closing bytes) (p.closing bytes)
 unfolding g.closing p.closing
 closing_exact l bytes = either (seq (same_word_exact bytes) (λ _. mark_exact s.LineEnd) (λ _. meets_never never _)) (mark_exact s.LineEnd) (begins_seq _ (begins_same_word bytes))
-  (meets (same s.LineEnd) words never _ (begins_mark s.LineEnd) refl refl)
+    (meets (same s.LineEnd) words never _ (begins_mark s.LineEnd) refl refl)
 
 end_word_exact : (l : Freed) (bytes : List ℕ) → Exact l (g.end_word bytes) never (p.end_word bytes) (p.end_word bytes)
 unfolding g.end_word g.after_end p.end_word
 end_word_exact l bytes = mark_then s.End _ _ _ (λ _. either (mark_then s.Subroutine _ _ _ (λ _. closing_exact l bytes)) (mark_exact s.LineEnd) (begins_seq _ (begins_mark s.Subroutine))
-  (meets (same s.LineEnd) (same s.Subroutine) never _ (begins_mark s.LineEnd) refl refl))
+    (meets (same s.LineEnd) (same s.Subroutine) never _ (begins_mark s.LineEnd) refl refl))
 
 end_word_begins : (bytes : List ℕ) → Begins (g.end_word bytes) (is s.End)
 unfolding g.end_word
@@ -271,7 +269,7 @@ end_word_begins bytes = begins_seq _ (begins_mark s.End)
 end_unit_exact : (l : Freed) (bytes : List ℕ) → Exact l (g.end_unit bytes) never (p.end_unit bytes) (p.end_unit bytes)
 unfolding g.end_unit p.end_unit
 end_unit_exact l bytes = either (mark_then s.EndSubroutine _ _ _ (λ _. closing_exact l bytes)) (end_word_exact l bytes) (begins_seq _ (begins_mark s.EndSubroutine))
-  (meets (same s.End) (same s.EndSubroutine) never _ (end_word_begins bytes) refl refl)
+    (meets (same s.End) (same s.EndSubroutine) never _ (end_word_begins bytes) refl refl)
 
 abbrev ends : Symbol → Bool
 ends = among (s.End ∷ s.EndSubroutine ∷ [])
@@ -292,20 +290,21 @@ parts a = cond (bodies a) true (same s.Integer a)
 pub unit_exact : (l : Freed) (limits wide : Limits) → Widens l limits wide → Exact l (g.unit limits) never (p.unit limits) (p.unit wide)
 unfolding g.unit p.unit
 unit_exact l limits wide W =
-  mark_then s.Subroutine _ _ _ (λ line. seq word_exact (λ x. seq (args_exact l) (λ found. mark_then s.LineEnd _ _ _ (λ _. seq (implicit_exact l)
-      (λ _. seq (decls_exact l limits wide W)
-        (λ ds. seq (stmts_exact l limits wide W)
-          (λ body. seq (end_unit_exact l x.name) (λ _. pure_exact (program line x found ds body)) (λ _. meets_never never _))
-          (λ body. meets ends names never _ (begins_seq _ (end_unit_begins x.name)) refl refl))
-        (λ ds. meets bodies (same s.Integer) never _ (body_begins x line found ds) refl refl))
-      (λ _. meets parts (same s.Implicit) never _ (parts_begin x line found) refl refl)))
+    mark_then s.Subroutine _ _ _ (λ line. seq word_exact (λ x. seq (args_exact l) (λ found. mark_then s.LineEnd _ _ _ (λ _. seq (implicit_exact l)
+    (λ _. seq (decls_exact l limits wide W)
+    (λ ds. seq (stmts_exact l limits wide W)
+    (λ body. seq (end_unit_exact l x.name) (λ _. pure_exact (program line x found ds body)) (λ _. meets_never never _))
+    (λ body. meets ends names never _ (begins_seq _ (end_unit_begins x.name)) refl refl))
+    (λ ds. meets bodies (same s.Integer) never _ (body_begins x line found ds) refl refl))
+    (λ _. meets parts (same s.Implicit) never _ (parts_begin x line found) refl refl)))
     (λ found. meets (same s.LineEnd) (same s.Open) never _ (begins_seq _ (begins_mark s.LineEnd)) refl refl)) (λ x. meets_never never _))
   where
     body_begins : (x : Word) (line : ℕ) (found : List (List ℕ)) (ds : List Decl) → Begins (g.stmts limits ⨟ (λ body. g.end_unit x.name ⨟ (λ _. gives (program line x found ds body)))) (on bodies)
     body_begins x line found ds = begins_opens (g.stmts limits) _ (on bodies) (opens_in names bodies _ (stmts_open l limits wide W) (wider names bodies refl refl))
-      (λ body. begins_in ends bodies _ (begins_seq _ (end_unit_begins x.name)) refl refl)
+        (λ body. begins_in ends bodies _ (begins_seq _ (end_unit_begins x.name)) refl refl)
+
     parts_begin : (x : Word) (line : ℕ) (found : List (List ℕ)) →
-      Begins (g.decls limits ⨟ (λ ds. g.stmts limits ⨟ (λ body. g.end_unit x.name ⨟ (λ _. gives (program line x found ds body))))) (on parts)
+        Begins (g.decls limits ⨟ (λ ds. g.stmts limits ⨟ (λ body. g.end_unit x.name ⨟ (λ _. gives (program line x found ds body))))) (on parts)
     parts_begin x line found = begins_opens (g.decls limits) _ (on parts) (opens_in (same s.Integer) parts _ (decls_open l limits wide W) (wider (same s.Integer) parts refl refl))
-      (λ ds. begins_in bodies parts _ (begins_opens (g.stmts limits) _ (on bodies) (opens_in names bodies _ (stmts_open l limits wide W) (wider names bodies refl refl))
+        (λ ds. begins_in bodies parts _ (begins_opens (g.stmts limits) _ (on bodies) (opens_in names bodies _ (stmts_open l limits wide W) (wider names bodies refl refl))
         (λ body. begins_in ends bodies _ (begins_seq _ (end_unit_begins x.name)) refl refl)) refl refl)

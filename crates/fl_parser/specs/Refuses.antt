@@ -29,4 +29,4 @@ Told Many ts left = Goes_past (unit uncounted) ts left
 -- The error has the place and the cause.
 abbrev pub Refuses : List ℕ → List Token → ParseError → Type 0
 Refuses text tokens e =
-  (f : Fault) × (e ≡ error_of text tokens f) × Refused_at (unit the_limits) (map (lexeme text) tokens) f.left × Told f.cause (map (lexeme text) tokens) f.left
+    (f : Fault) × (e ≡ error_of text tokens f) × Refused_at (unit the_limits) (map (lexeme text) tokens) f.left × Told f.cause (map (lexeme text) tokens) f.left

@@ -1,15 +1,13 @@
 -- The grammar of a unit.
-use Rattle.std.specs.Prelude.{ℕ, ◌+◌, Bool, true, List, [], ◌∷◌, ◌++◌, length, Option, Some, None}
-use Rattle.tokens.specs.Lexeme.{Lexeme}
+use Rattle.std.specs.Prelude.{ℕ, ◌+◌, Bool, true, List, [], ◌∷◌, ◌++◌, length}
 use Rattle.fl_ast.specs.declared.kind.Kind.{Kind}
-use Rattle.fl_ast.specs.declared.kind.Kind.TheVariants.{Index, Ring}
+use Rattle.fl_ast.specs.declared.kind.Kind.TheVariants.{Index}
 use Rattle.fl_ast.specs.declared.kind.Intent.{Intent}
 use Rattle.fl_ast.specs.declared.kind.Intent.TheVariants.{Unsaid, ReadOnly, WriteOnly, Both}
 use Rattle.fl_ast.specs.declared.decl.Decl.{Decl}
 use Rattle.fl_ast.specs.declared.stmt.Program.{Program}
 use Rattle.parsing.specs.declared.symbol.Symbol.TheVariants as s
-use Rattle.parsing.specs.declared.cursor.Word.{Word}
-use Rattle.parsing.specs.Limit.{Limit, allows}
+use Rattle.parsing.specs.Limit.{allows}
 use Rattle.parsing.specs.Terminal.{marked, name, word, same_word}
 use Rattle.parsing.specs.Grammar.{Grammar, ◌>>=◌, gives, one, ◌or◌, where_, many}
 use Rattle.fl_parser.specs.declared.stmt.Counted.{Counted}

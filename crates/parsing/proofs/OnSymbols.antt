@@ -1,5 +1,5 @@
 -- What the tests on tokens say of each other: tests on symbols are decided by trying each.
-use Rattle.std.proofs.Common.{◌≡◌, ℕ, zero, suc, ◌+◌, ◌≤◌, Bool, true, false, cond, not, ◌&&◌, ◌||◌, ◌⊎◌, inl, inr, ◌==◌, List, [], ◌∷◌, ◌++◌, Option, Some, None, refl, sym, ap, ◌∙◌, eqb-true, eq-eqb}
+use Rattle.std.proofs.Common.{◌≡◌, ℕ, zero, suc, Bool, true, false, cond, not, ◌&&◌, ◌||◌, List, [], ◌∷◌, ◌++◌, Option, Some, None, refl, sym, ap, ◌∙◌, eqb-true, eq-eqb}
 use Rattle.tokens.specs.Lexeme.{Lexeme}
 use Rattle.parsing.specs.declared.symbol.Symbol.{Symbol}
 use Rattle.parsing.specs.declared.symbol.Symbol.TheVariants as s
@@ -269,7 +269,7 @@ begins_by read = begins_one (by read) (on (reads read)) (λ t x h. ap some h)
 
 pub mark_exact : {l : Freed} (a : Symbol) → Exact l (one (marked a)) never (token (marked a)) (token (marked a))
 mark_exact a = token_exact (marked a) (example a).line (example a)
-  (ap (λ b. cond b (Some (example a).line) None) (ap (same a) (example_is a) ∙ same_self a))
+    (ap (λ b. cond b (Some (example a).line) None) (ap (same a) (example_is a) ∙ same_self a))
 
 pub name_exact : {l : Freed} → Exact l (one name) never (token name) (token name)
 name_exact = token_exact name (word_of (example s.Name)) (example s.Name) (ap (λ v. cond (names v) (Some (word_of (example s.Name))) None) (example_is s.Name))
@@ -286,7 +286,7 @@ by_exact read a x e = token_exact (by read) x (example a) (ap read (example_is a
 
 -- a mark, and then something
 pub mark_then : {B : Type 0} {l : Freed} {after : Lexeme → Bool} (a : Symbol) (M : ℕ → Grammar B) (f f2 : ℕ → Parser B) →
-  ((x : ℕ) → Exact l (M x) after (f x) (f2 x)) → Exact l (one (marked a) ⨟ M) after (token (marked a) ▷ f) (token (marked a) ▷ f2)
+    ((x : ℕ) → Exact l (M x) after (f x) (f2 x)) → Exact l (one (marked a) ⨟ M) after (token (marked a) ▷ f) (token (marked a) ▷ f2)
 mark_then {B} {l} {after} a M f f2 F = seq (mark_exact a) F (λ x. meets_never after (M x))
 
 pub bites_mark : {B : Type 0} (a : Symbol) (f : ℕ → Parser B) → ((x : ℕ) → Shrinks (f x)) → Bites (token (marked a) ▷ f) (is a)
@@ -315,7 +315,7 @@ of_cond f false a c h k = k
 look_up_is : (f : Symbol → Bool) (table : List Entry) (bytes : List ℕ) (otherwise : Symbol) → every_entry f table ≡ true → f otherwise ≡ true → f (look_up table bytes otherwise) ≡ true
 look_up_is f [] bytes otherwise h k = k
 look_up_is f (e ∷ es) bytes otherwise h k =
-  of_cond f (bytes_eq bytes (str_to_ascii_lowercase e.0)) e.1 (look_up es bytes otherwise) (and_l (f e.1) (every_entry f es) h) (look_up_is f es bytes otherwise (and_r (f e.1) (every_entry f es) h) k)
+    of_cond f (bytes_eq bytes (str_to_ascii_lowercase e.0)) e.1 (look_up es bytes otherwise) (and_l (f e.1) (every_entry f es) h) (look_up_is f es bytes otherwise (and_r (f e.1) (every_entry f es) h) k)
 
 number_symbol : (k : TokenKind) (bytes : List ℕ) (x : Number) → number_by k ≡ Some x → numbers (symbol_by k bytes) ≡ true
 unfolding symbol_by
@@ -338,7 +338,7 @@ word_symbol bytes = look_up_is words word_table bytes s.Name refl refl
 
 pub begins_same_word : (bytes : List ℕ) → Begins (one (same_word bytes)) (on words)
 begins_same_word bytes = begins_one (same_word bytes) (on words)
-  (λ t x h. and_l (on words t) (bytes_eq t.bytes (str_to_ascii_lowercase bytes)) (cond_some (on words t && bytes_eq t.bytes (str_to_ascii_lowercase bytes)) tt x h))
+    (λ t x h. and_l (on words t) (bytes_eq t.bytes (str_to_ascii_lowercase bytes)) (cond_some (on words t && bytes_eq t.bytes (str_to_ascii_lowercase bytes)) tt x h))
 
 given : {A : Type 0} (x : A) (a b : Bool) → a ≡ true → b ≡ true → cond (a && b) (Some x) None ≡ Some x
 given x true true h k = refl
@@ -347,5 +347,5 @@ given x false b h k = differ false h refl
 
 pub same_word_exact : {l : Freed} (bytes : List ℕ) → Exact l (one (same_word bytes)) never (token (same_word bytes)) (token (same_word bytes))
 same_word_exact bytes =
-  let t : Lexeme = record { line = 1; kind = kind.Word; bytes = str_to_ascii_lowercase bytes } in
-  token_exact (same_word bytes) tt t (given tt (on words t) (bytes_eq t.bytes (str_to_ascii_lowercase bytes)) (word_symbol t.bytes) (same_bytes t.bytes t.bytes refl))
+    let t : Lexeme = record { line = 1; kind = kind.Word; bytes = str_to_ascii_lowercase bytes } in
+    token_exact (same_word bytes) tt t (given tt (on words t) (bytes_eq t.bytes (str_to_ascii_lowercase bytes)) (word_symbol t.bytes) (same_bytes t.bytes t.bytes refl))

@@ -1,9 +1,9 @@
 -- Outcomes of readings: what they were, and how far they got.
-use Rattle.std.proofs.Common.{◌≡◌, ℕ, zero, suc, ◌+◌, ◌<◌, ◌≤◌, Bool, true, false, List, [], ◌∷◌, ◌++◌, length, Option, Some, None, Result, Ok, Err, ◌⊎◌, inl, inr, refl, sym, ap, ◌∙◌, subst, length-append, arith}
+use Rattle.std.proofs.Common.{◌≡◌, ℕ, ◌+◌, ◌<◌, ◌≤◌, Bool, true, false, List, [], ◌∷◌, ◌++◌, length, Option, Some, None, Ok, Err, ◌⊎◌, inl, inr, refl, sym, ap, ◌∙◌, length-append, arith}
 use Rattle.tokens.specs.Lexeme.{Lexeme}
 use Rattle.parsing.specs.declared.fault.Cause.{Cause}
 use Rattle.parsing.specs.declared.fault.Fault.{Fault}
-use Rattle.parsing.specs.Reading.{◌>>=◌ as ◌▷◌, Lexemes, Outcome, Parser, and_then, sees, fault, choose, within, refuse, token, pure}
+use Rattle.parsing.specs.Reading.{◌>>=◌ as ◌▷◌, Lexemes, Outcome, Parser, and_then, sees, choose, refuse, pure}
 
 -- the first token, where there is one
 abbrev pub first : Lexemes → Option Lexeme
@@ -17,17 +17,19 @@ append_nil (t ∷ us) = ap (λ vs. t ∷ vs) (append_nil us)
 pub append_split : {A : Type 0} (a b c d : List A) → a ++ b ≡ c ++ d → length b ≡ length d → (a ≡ c) × (b ≡ d)
 append_split [] b [] d e h = (refl, e)
 append_split [] b (x ∷ c) d e h =
-  let whole : length b ≡ length (x ∷ c) + length d = ap length e ∙ length-append (x ∷ c) d in absurd (omega arith)
+    let whole : length b ≡ length (x ∷ c) + length d = ap length e ∙ length-append (x ∷ c) d in absurd (omega arith)
 append_split (x ∷ a) b [] d e h =
-  let whole : length (x ∷ a) + length b ≡ length d = sym (length-append (x ∷ a) b) ∙ ap length e in absurd (omega arith)
+    let whole : length (x ∷ a) + length b ≡ length d = sym (length-append (x ∷ a) b) ∙ ap length e in absurd (omega arith)
 append_split {A} (x ∷ a) b (y ∷ c) d e h =
-  let rest = append_split a b c d (tails x y (a ++ b) (c ++ d) e) h in
-  (both x y a c (heads x y (a ++ b) (c ++ d) e) rest.0, rest.1)
+    let rest = append_split a b c d (tails x y (a ++ b) (c ++ d) e) h in
+    (both x y a c (heads x y (a ++ b) (c ++ d) e) rest.0, rest.1)
   where
     heads : (x y : A) (us vs : List A) → x ∷ us ≡ y ∷ vs → x ≡ y
     heads x y us vs e = cc
+
     tails : (x y : A) (us vs : List A) → x ∷ us ≡ y ∷ vs → us ≡ vs
     tails x y us vs e = cc
+
     both : (x y : A) (us vs : List A) → x ≡ y → us ≡ vs → x ∷ us ≡ y ∷ vs
     both x y us vs e f = cc
 
@@ -87,12 +89,12 @@ ok_err {A} f u e = absurd (wrong f u e)
 -- ---- one after the other
 
 pub bind_ok : {A B : Type 0} (o : Outcome A) (f : A → Parser B) (z : B) (rest : Lexemes) → and_then o f ≡ Ok (z, rest) →
-  (x : A) × (mid : Lexemes) × (o ≡ Ok (x, mid)) × (f x mid ≡ Ok (z, rest))
+    (x : A) × (mid : Lexemes) × (o ≡ Ok (x, mid)) × (f x mid ≡ Ok (z, rest))
 bind_ok (Ok u) f z rest e = (u.0, u.1, refl, e)
 bind_ok (Err d) f z rest e = cc
 
 pub bind_err : {A B : Type 0} (o : Outcome A) (f : A → Parser B) (d : Fault) → and_then o f ≡ Err d →
-  (o ≡ Err d) ⊎ ((x : A) × (mid : Lexemes) × (o ≡ Ok (x, mid)) × (f x mid ≡ Err d))
+    (o ≡ Err d) ⊎ ((x : A) × (mid : Lexemes) × (o ≡ Ok (x, mid)) × (f x mid ≡ Err d))
 bind_err (Ok u) f d e = inr (u.0, u.1, refl, e)
 bind_err (Err c) f d e = inl (cc)
 

@@ -1,6 +1,5 @@
 -- One spelling of each symbol.
-use Rattle.std.specs.Prelude.{List, [], codes, None}
-use Rattle.tokens.specs.declared.TokenKind.{TokenKind}
+use Rattle.std.specs.Prelude.{ℕ, List, [], ◌∷◌, codes, None}
 use Rattle.tokens.specs.declared.TokenKind.TheVariants as kind
 use Rattle.tokens.specs.Lexeme.{Lexeme}
 use Rattle.parsing.specs.declared.symbol.Symbol.{Symbol}
@@ -78,3 +77,8 @@ example s.Construct = record { line = 1; kind = kind.Word; bytes = codes "exit" 
 example s.Sentinel = record { line = 1; kind = kind.Sentinel; bytes = codes "!$omp" }
 example s.LineEnd = record { line = 1; kind = kind.LineEnd; bytes = [] }
 example s.Other = record { line = 1; kind = kind.Mark; bytes = codes "&" }
+
+-- the words that begin a construct outside the language
+abbrev pub construct_words : List (List ℕ)
+construct_words =
+  codes "exit" ∷ codes "cycle" ∷ codes "goto" ∷ codes "return" ∷ codes "stop" ∷ codes "while" ∷ codes "contains" ∷ codes "allocate" ∷ codes "deallocate" ∷ codes "print" ∷ codes "write" ∷ codes "read" ∷ codes "select" ∷ codes "where" ∷ codes "forall" ∷ codes "use" ∷ codes "module" ∷ codes "program" ∷ codes "function" ∷ codes "real" ∷ codes "logical" ∷ codes "character" ∷ codes "complex" ∷ codes "double" ∷ codes "type" ∷ codes "common" ∷ codes "continue" ∷ codes "parameter" ∷ codes "dimension" ∷ codes "save" ∷ codes "block" ∷ []

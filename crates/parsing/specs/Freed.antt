@@ -1,7 +1,7 @@
 -- Which limits are taken away to tell why a token is refused.
-use Rattle.std.specs.Prelude.{◌≡◌, ℕ, ◌<◌, Bool, true, false, None}
+use Rattle.std.specs.Prelude.{◌≡◌, Bool, true, false, None}
 use Rattle.parsing.specs.declared.fault.Cause.{Cause}
-use Rattle.parsing.specs.declared.fault.Cause.TheVariants.{Expected, Deep, Many}
+use Rattle.parsing.specs.declared.fault.Cause.TheVariants.{Expected, Many}
 use Rattle.parsing.specs.Limit.{Limit}
 
 pub data Freed : Type 0 where

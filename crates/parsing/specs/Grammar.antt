@@ -1,5 +1,5 @@
 -- Grammars: which lexemes spell which value. No order of reading, no rest and no refusal is in them.
-use Rattle.std.specs.Prelude.{◌≡◌, ℕ, zero, suc, Bool, true, List, [], ◌∷◌, ◌++◌, Option, Some, ◌⊎◌}
+use Rattle.std.specs.Prelude.{◌≡◌, ℕ, zero, suc, Bool, true, [], ◌∷◌, ◌++◌, Option, Some, ◌⊎◌}
 use Rattle.tokens.specs.Lexeme.{Lexeme}
 use Rattle.parsing.specs.Reading.{Lexemes}
 

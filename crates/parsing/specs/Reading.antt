@@ -1,5 +1,5 @@
 -- Readers as functions on lists of lexemes.
-use Rattle.std.specs.Prelude.{ℕ, zero, suc, Bool, true, false, if◌then◌else◌, List, [], ◌∷◌, length, Option, Some, None, Result, Ok, Err}
+use Rattle.std.specs.Prelude.{ℕ, zero, suc, Bool, false, if◌then◌else◌, List, [], ◌∷◌, length, Option, Some, None, Result, Ok, Err}
 use Rattle.tokens.specs.Lexeme.{Lexeme}
 use Rattle.parsing.specs.declared.symbol.Symbol.{Symbol}
 use Rattle.parsing.specs.declared.fault.Cause.{Cause}

@@ -1,5 +1,5 @@
 -- The place of a refusal: up to there some text of the grammar goes on, and through the token there none does.
-use Rattle.std.specs.Prelude.{◌≡◌, ◌<◌, ℕ, List, [], ◌∷◌, ◌++◌, length, Result, Ok, Err}
+use Rattle.std.specs.Prelude.{◌≡◌, ◌<◌, ℕ, [], ◌∷◌, ◌++◌, length, Result, Ok, Err}
 use Rattle.parsing.specs.declared.fault.Fault.{Fault}
 use Rattle.parsing.specs.declared.fault.Cause.TheVariants.{Expected}
 use Rattle.parsing.specs.Reading.{Lexemes, Outcome, fault}

@@ -1,5 +1,5 @@
 -- What tokens are to a grammar.
-use Rattle.std.specs.Prelude.{ℕ, List, [], ◌∷◌, Bool, true, false, bytes_eq, cond, map}
+use Rattle.std.specs.Prelude.{ℕ, List, [], ◌∷◌, bytes_eq, cond, map}
 use Rattle.std.specs.Str.{str_to_ascii_lowercase}
 use denote.Ref.{Bor}
 use Rattle.tokens.specs.declared.TokenKind.{TokenKind}

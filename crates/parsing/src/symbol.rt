@@ -1,6 +1,10 @@
-ghost use Rattle.std.specs.Prelude.{◌≡◌};
+ghost use Rattle.std.specs.Prelude.{◌≡◌, map};
 ghost use Rattle.std.specs.Str.{str_to_ascii_lowercase};
-ghost use Rattle.parsing.specs.Symbol.{entries, look_up, symbol_by};
+ghost use Rattle.tokens.specs.declared.TokenKind.TheVariants as kind;
+ghost use Rattle.parsing.specs.declared.symbol.Symbol.{Symbol};
+ghost use Rattle.parsing.specs.declared.symbol.Symbol.TheVariants as symbols;
+ghost use Rattle.parsing.specs.Example.{construct_words, example};
+ghost use Rattle.parsing.specs.Symbol.{entries, look_up, symbol_by, symbol_of};
 ghost use Rattle.parsing.specs.Terminal as terminal;
 
 use tokens::TokenKind;
@@ -315,4 +319,11 @@ impl Symbol {
     {
         matches!(self, Symbol::Number | Symbol::Four | Symbol::Eight)
     }
+}
+
+/// How symbols are spelled; it does nothing.
+pub fn spellings()
+    ensures each { (a : Symbol) → symbol_of (example a) ≡ a }
+    ensures constructs { map (symbol_by kind.Word) construct_words ≡ map (λ _. symbols.Construct) construct_words }
+{
 }

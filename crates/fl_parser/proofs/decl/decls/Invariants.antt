@@ -1,9 +1,8 @@
-use Rattle.std.proofs.Common.{◌≡◌, ◌-◌, ◌+◌, ◌≤◌, true, length, Some}
+use Rattle.std.proofs.Common.{◌≡◌, ◌-◌}
 use Rattle.parsing.specs.declared.symbol.Symbol.TheVariants as s
 use Rattle.parsing.specs.declared.fault.Cause.TheVariants.{Many}
 use Rattle.fl_parser.specs.Trees.{the_limits}
 use Rattle.parsing.specs.Terminal.{is}
-use Rattle.parsing.specs.Limit.{allows}
 use Rattle.parsing.specs.Reading.{turns}
 use Rattle.fl_parser.specs.UnitReading as spec
 use Rattle.fl_parser.proofs.decl.decls.Given as goal

@@ -1,10 +1,9 @@
-use Rattle.std.proofs.Common.{◌-◌, ◌+◌, rules, arith, true, length, Some}
+use Rattle.std.proofs.Common.{rules, arith}
 use Rattle.std.proofs.lemmas.Grind.{common_steps}
 use Rattle.parsing.specs.declared.symbol.Symbol.TheVariants as s
 use Rattle.parsing.specs.declared.fault.Cause.TheVariants.{Many}
 use Rattle.fl_parser.specs.Trees.{the_limits}
 use Rattle.parsing.specs.Terminal.{is}
-use Rattle.parsing.specs.Limit.{allows}
 use Rattle.parsing.specs.Reading.{turns}
 use Rattle.fl_parser.specs.UnitReading as spec
 use Rattle.fl_parser.proofs.Turns.{one_more}

@@ -1,4 +1,4 @@
-use Rattle.std.proofs.Common.{◌-◌, ◌+◌, rules, arith, true, length, Some}
+use Rattle.std.proofs.Common.{◌+◌, rules, arith, Some}
 use Rattle.std.proofs.lemmas.Grind.{common_steps}
 use Rattle.parsing.specs.declared.fault.Cause.TheVariants.{Many}
 use Rattle.fl_parser.specs.Trees.{the_limits}

@@ -1,4 +1,4 @@
-use Rattle.std.proofs.Common.{◌≡◌, ◌-◌, ◌+◌, ◌≤◌, true, length, Some}
+use Rattle.std.proofs.Common.{◌≡◌, ◌-◌, ◌+◌, ◌≤◌, Some}
 use Rattle.parsing.specs.declared.fault.Cause.TheVariants.{Many}
 use Rattle.fl_parser.specs.Trees.{the_limits}
 use Rattle.parsing.specs.Terminal.{on, names}

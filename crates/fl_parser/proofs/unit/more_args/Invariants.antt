@@ -1,8 +1,7 @@
-use Rattle.std.proofs.Common.{◌≡◌, ◌-◌, ◌+◌, ◌≤◌, true, length, Some}
+use Rattle.std.proofs.Common.{◌≡◌, ◌-◌, true}
 use Rattle.parsing.specs.declared.symbol.Symbol.TheVariants as s
 use Rattle.parsing.specs.declared.fault.Cause.TheVariants.{Expected}
 use Rattle.parsing.specs.Terminal.{is}
-use Rattle.parsing.specs.Limit.{allows}
 use Rattle.parsing.specs.Reading.{turns}
 use Rattle.fl_parser.specs.UnitReading as spec
 use Rattle.fl_parser.proofs.unit.more_args.Given as goal

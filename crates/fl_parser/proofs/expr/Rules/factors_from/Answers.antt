@@ -1,4 +1,4 @@
-use Rattle.std.proofs.Common.{◌-◌, rules, arith, nat_lt, Some}
+use Rattle.std.proofs.Common.{rules, arith, nat_lt, Some}
 use Rattle.std.proofs.lemmas.Grind.{common_steps}
 use Rattle.parsing.specs.declared.fault.Cause.TheVariants.{Deep}
 use Rattle.parsing.specs.Limit.{allows}
@@ -14,7 +14,6 @@ loop-turn-init g c = first_of (search rules, grind (arith, common_steps))
 
 pub loop-turn-preserved : goal.loop-turn-preserved
 loop-turn-preserved g c =
-    let s = c.args.self.now in
-    let e = one_more (λ n. turns is_product_op (λ x. allows (Some c.args.d) x.depth) Deep (spec.times_one (nat_lt 0 s.brackets) (spec.below s.brackets) (Some c.args.d)) n c.loop-turn.left c.loop-turn.tokens)
+    let e = one_more (λ n. turns is_product_op (λ x. allows (Some c.args.d) x.depth) Deep (spec.times_one (nat_lt 0 c.args.self.now.brackets) (spec.below c.args.self.now.brackets) (Some c.args.d)) n c.loop-turn.left c.loop-turn.tokens)
     _ c.loop-turn._turn c.loop-turn-test.true c.loop-turn.invariant.reads in
     first_of (search rules, grind (arith, common_steps))
