@@ -6,4 +6,5 @@ pub mod PieceSpelling
 pub mod TextSpelling
 pub mod Placing
 pub mod Refusing
+pub mod ReadBack
 pub mod Promises

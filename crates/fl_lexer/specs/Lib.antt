@@ -5,3 +5,4 @@ pub mod Reading
 pub mod Spelling
 pub mod Placement
 pub mod Refusals
+pub mod Printing

@@ -8,5 +8,5 @@ mod line;
 mod piece;
 
 pub use error::LexError;
-pub use lexer::lex;
+pub use lexer::{lex, printed_is_read_back};
 pub use tokens::{Token, TokenKind};
