@@ -5,6 +5,8 @@ pub mod LawProofs
 pub mod Reported
 pub mod Powers
 pub mod Slots
+pub mod ByKeys
+mod Accessed
 mod Lines
 mod Loops
 mod Sums

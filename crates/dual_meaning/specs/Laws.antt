@@ -1,7 +1,8 @@
 -- Laws of the meaning: what runs in different directions have in common.
 use Rattle.std.specs.Prelude.{◌≡◌, ℕ, List, [], ◌∷◌, map, Result, Ok, Err}
 use Rattle.ring_core.specs.Ring.{ring_add, ring_mul}
-use Rattle.fl_ast.specs.Tree.{Statements}
+use Rattle.fl_ast.specs.Tree.{Expression, Condition, Statements}
+use Rattle.dual_meaning.specs.Expressions.{value_of, holds}
 use Rattle.dual_meaning.specs.declared.value.TrapAt.{TrapAt}
 use Rattle.dual_meaning.specs.Sites.{Cells, Site}
 use Rattle.dual_meaning.specs.Statements.{run_all}
@@ -42,3 +43,9 @@ TangentsAreLinear =
 -- the function reports the least clash, and none exactly where there is none
 abbrev pub ConflictIsReported : Type 0
 ConflictIsReported = (ts : List Touch) → Reports ts (conflict ts)
+
+-- what an expression or a condition is worth depends on the keys of the cells alone, not on the loops around it
+abbrev pub ValuesGoByKeys : Type 0
+ValuesGoByKeys =
+    (s t : Site) (cells : Cells) → s.keys ≡ t.keys →
+    ((e : Expression) → (value_of e s cells).out ≡ (value_of e t cells).out) × ((c : Condition) → (holds c s cells).out ≡ (holds c t cells).out)

@@ -33,15 +33,15 @@ pub record Site : Type 0 where
   pub pluses : List ℕ → Bool
   pub number : ℕ
 
--- the scalars that have no place in a layout: private ones and loop variables, in the order of their declarations
-abbrev pub other_keys : List Shape → List Decl → List Key
-other_keys shapes decls =
-    filter_map (λ (d : Decl). if list_any (λ (s : Shape). bytes_eq d.name s.name) shapes then None else Some (d.name, [])) decls
+-- the scalars that a layout doesn't hold, private ones and loop variables, in the order of their declarations
+abbrev pub other_scalars : List Shape → List Decl → List Shape
+other_scalars shapes decls =
+    filter_map (λ (d : Decl). if list_any (λ (s : Shape). bytes_eq d.name s.name) shapes then None else Some (record { name = d.name; axes = [] })) decls
 
 -- outside every loop of a program with these declarations and this layout
 abbrev pub opening_site : List Decl → List Shape → (List ℕ → Bool) → Site
 opening_site decls shapes pushed = record {
-  keys = keys_of shapes ++ other_keys shapes decls;
+  keys = keys_of (shapes ++ other_scalars shapes decls);
   declared = map (λ (d : Decl). d.name) decls;
   ring = is_ring_name decls;
   pushed = pushed;

@@ -1,4 +1,4 @@
-ghost use Rattle.dual_meaning.specs.Laws.{TangentsAreUnseen, TangentsAreLinear, ConflictIsReported};
+ghost use Rattle.dual_meaning.specs.Laws.{TangentsAreUnseen, TangentsAreLinear, ConflictIsReported, ValuesGoByKeys};
 
 /// Values, events, conflicts and traps of a program don't depend on the tangents that it begins with.
 pub fn tangents_are_unseen()
@@ -13,4 +13,9 @@ pub fn tangents_are_linear()
 /// A conflict is reported of a parallel loop's touches exactly where two of them clash, and it is the least.
 pub fn conflict_is_reported()
     ensures { ConflictIsReported }
+{}
+
+/// What an expression or a condition is worth doesn't depend on the loops around it.
+pub fn values_go_by_keys()
+    ensures { ValuesGoByKeys }
 {}
