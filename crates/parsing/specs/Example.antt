@@ -81,4 +81,4 @@ example s.Other = record { line = 1; kind = kind.Mark; bytes = codes "&" }
 -- the words that begin a construct outside the language
 abbrev pub construct_words : List (List ℕ)
 construct_words =
-  codes "exit" ∷ codes "cycle" ∷ codes "goto" ∷ codes "return" ∷ codes "stop" ∷ codes "while" ∷ codes "contains" ∷ codes "allocate" ∷ codes "deallocate" ∷ codes "print" ∷ codes "write" ∷ codes "read" ∷ codes "select" ∷ codes "where" ∷ codes "forall" ∷ codes "use" ∷ codes "module" ∷ codes "program" ∷ codes "function" ∷ codes "real" ∷ codes "logical" ∷ codes "character" ∷ codes "complex" ∷ codes "double" ∷ codes "type" ∷ codes "common" ∷ codes "continue" ∷ codes "parameter" ∷ codes "dimension" ∷ codes "save" ∷ codes "block" ∷ []
+    codes "exit" ∷ codes "cycle" ∷ codes "goto" ∷ codes "return" ∷ codes "stop" ∷ codes "while" ∷ codes "contains" ∷ codes "allocate" ∷ codes "deallocate" ∷ codes "print" ∷ codes "write" ∷ codes "read" ∷ codes "select" ∷ codes "where" ∷ codes "forall" ∷ codes "use" ∷ codes "module" ∷ codes "program" ∷ codes "function" ∷ codes "real" ∷ codes "logical" ∷ codes "character" ∷ codes "complex" ∷ codes "double" ∷ codes "type" ∷ codes "common" ∷ codes "continue" ∷ codes "parameter" ∷ codes "dimension" ∷ codes "save" ∷ codes "block" ∷ []

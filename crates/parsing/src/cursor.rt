@@ -1,4 +1,4 @@
-ghost use Rattle.std.specs.Prelude.{◌≡◌, map, length, IfOk, IsTrue, ◌↔◌, [], ◌≤◌, bytes_eq};
+ghost use Rattle.std.specs.Prelude.{◌≡◌, ◌≢◌, Err, map, length, IfOk, IsTrue, ◌↔◌, [], ◌≤◌, bytes_eq};
 ghost use Rattle.std.specs.Str.{str_to_ascii_lowercase};
 ghost use Rattle.tokens.specs.Lexeme.{lexeme};
 ghost use Rattle.tokens.specs.Spans.{Are_spans};
@@ -134,7 +134,8 @@ impl<'a> Cursor<'a> {
 
     /// Takes a token of this symbol, and gives its line.
     pub fn mark(&mut self, symbol: Symbol) -> Result<u32, Failure>
-        ensures { Reads (reading.token (terminal.marked symbol) self.old) result self.new }
+        ensures reads { Reads (reading.token (terminal.marked symbol) self.old) result self.new }
+        ensures sure { result ≢ Err Failure.Memory }
     {
         match self.rest {
             [token, rest @ ..] if self.sees(symbol) => {
@@ -149,7 +150,8 @@ impl<'a> Cursor<'a> {
 
     /// Takes a number.
     pub fn number(&mut self) -> Result<Number, Failure>
-        ensures { Reads (reading.token terminal.number self.old) result self.new }
+        ensures reads { Reads (reading.token terminal.number self.old) result self.new }
+        ensures sure { result ≢ Err Failure.Memory }
     {
         if let [token, rest @ ..] = self.rest {
             if let TokenKind::Number { value, suffix } = token.kind {
@@ -163,7 +165,8 @@ impl<'a> Cursor<'a> {
 
     /// Takes a name of a variable.
     pub fn name(&mut self, alloc: Global) -> Result<Word, Failure>
-        ensures { Reads (reading.token terminal.name self.old) result self.new }
+        ensures reads { Reads (reading.token terminal.name self.old) result self.new }
+        ensures wanting { result ≡ Err Failure.Memory → IsTrue (reading.sees (terminal.on terminal.names) self.old) }
     {
         if let [token, rest @ ..] = self.rest {
             if let Some(ahead) = self.ahead {
@@ -181,7 +184,8 @@ impl<'a> Cursor<'a> {
 
     /// Takes any word.
     pub fn word(&mut self, alloc: Global) -> Result<Word, Failure>
-        ensures { Reads (reading.token terminal.word self.old) result self.new }
+        ensures reads { Reads (reading.token terminal.word self.old) result self.new }
+        ensures wanting { result ≡ Err Failure.Memory → IsTrue (reading.sees (terminal.on terminal.words) self.old) }
     {
         if let [token, rest @ ..] = self.rest {
             if let Some(ahead) = self.ahead {
@@ -199,7 +203,8 @@ impl<'a> Cursor<'a> {
 
     /// Takes the word that has these letters, in either case.
     pub fn same_word(&mut self, name: &Name) -> Result<(), Failure>
-        ensures { Reads (reading.token (terminal.same_word name.now) self.old) result self.new }
+        ensures reads { Reads (reading.token (terminal.same_word name.now) self.old) result self.new }
+        ensures sure { result ≢ Err Failure.Memory }
     {
         if let [token, rest @ ..] = self.rest {
             if let Some(ahead) = self.ahead {

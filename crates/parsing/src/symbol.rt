@@ -325,5 +325,4 @@ impl Symbol {
 pub fn spellings()
     ensures each { (a : Symbol) → symbol_of (example a) ≡ a }
     ensures constructs { map (symbol_by kind.Word) construct_words ≡ map (λ _. symbols.Construct) construct_words }
-{
-}
+{}
