@@ -1,7 +1,7 @@
 -- Straight lines compute.
-use Rattle.std.specs.Prelude.{◌≡◌, ℕ, List, [], ◌∷◌, None, refl, codes, Ok}
+use Rattle.std.specs.Prelude.{◌≡◌, ℕ, List, [], ◌∷◌, Some, None, refl, codes, Ok}
 use Rattle.fl_ast.specs.declared.kind.Kind.TheVariants as kind
-use Rattle.fl_ast.specs.Tree.{Statements, statement}
+use Rattle.fl_ast.specs.Tree.{Statements, statement, Subroutine}
 use Rattle.ring_core.specs.Index.{fitted}
 use Rattle.dual_meaning.specs.declared.value.Cause.TheVariants.{Range}
 use Rattle.dual_meaning.specs.Logs.{events, begins, pushes}
@@ -9,6 +9,8 @@ use Rattle.dual_meaning.specs.Sites.{Site, opening_site}
 use Rattle.dual_meaning.specs.Statements.{run_all}
 use Rattle.dual_meaning.specs.Stops.{first_stop, trapped}
 use Rattle.dual_meaning.specs.Adjoints.{adjoint_at}
+use Rattle.dual_meaning.specs.Programs.{meaning, adjoint_of, entry_cells}
+use Rattle.dual_meaning.specs.declared.value.Value.TheVariants.{Ring}
 use Rattle.dual_meaning.proofs.Small.{declared, scalar, word, number, one, name, to, ◌plus◌, ◌times◌, only, set, all_pushed, limits}
 
 abbrev x : List ℕ
@@ -71,3 +73,23 @@ over_stop = refl
 pub over_value : (run_all over over_site (number 6 ∷ word 1 ∷ None ∷ [])).out ≡ Ok (number 6 ∷ word 8 ∷ number 7 ∷ [])
 unfolding fitted
 over_value = refl
+
+-- the same as a whole program
+abbrev poly_unit : Subroutine
+poly_unit = record { name = codes "poly"; args = x ∷ y ∷ []; decls = declared kind.Ring x ∷ declared kind.Ring y ∷ []; body = poly }
+
+pub poly_meaning : (meaning poly_unit (scalar x ∷ scalar y ∷ []) all_pushed (5 ∷ 0 ∷ []) (1 ∷ [])).out
+    ≡ Ok (Some (Ring (record { value = 5; tangent = 1 })) ∷ Some (Ring (record { value = 40; tangent = 13 })) ∷ [])
+unfolding fitted
+poly_meaning = refl
+
+pub poly_answer : adjoint_of poly_unit (scalar x ∷ scalar y ∷ []) (5 ∷ 0 ∷ []) (0 ∷ 1 ∷ []) 0 ≡ 13
+unfolding fitted
+poly_answer = refl
+
+abbrev over_unit : Subroutine
+over_unit = record { name = codes "over"; args = n ∷ x ∷ []; decls = declared kind.Index n ∷ declared kind.Index k ∷ declared kind.Ring x ∷ []; body = over }
+
+-- the local scalar k is unset at the entry
+pub over_entry : entry_cells over_unit (scalar n ∷ scalar x ∷ scalar k ∷ []) (2147483647 ∷ 1 ∷ 0 ∷ []) ≡ number 2147483647 ∷ word 1 ∷ None ∷ []
+over_entry = refl

@@ -6,6 +6,7 @@ pub mod Statements
 pub mod Conflicts
 pub mod Stops
 pub mod Adjoints
+pub mod Programs
 pub mod Laws
 pub mod Codes
 pub mod Answers
