@@ -1,1 +1,2 @@
+pub mod DataPast
 pub mod Found

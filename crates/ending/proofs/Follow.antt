@@ -12,7 +12,7 @@ use Rattle.ending.specs.Plan.{Answers, Asks}
 use Rattle.ending.specs.Plan.{Comes}
 use Rattle.ending.specs.Plan.{said, untold, missing, long, read}
 use Rattle.outside.specs.declared.folder.TakeError.TheVariants.{Missing, TooLong}
-use Rattle.ending.specs.Stage.{Passes, IsFault, IsStage, IsSaid, IsPart, IsRefusal, Reaches, IsCommand}
+use Rattle.ending.specs.Stage.{Passes, IsFault, IsStage, IsSaid, IsPart, IsRefusal, Reaches, IsCommand, IsEnd}
 
 -- a count that rose has risen later on, and one that rises later has risen
 pub rose_on : (a b c : ℕ) → Rose a b → b ≤ c → Rose a c
@@ -213,12 +213,35 @@ pub stops_part : {T A : Type 0} {view : T → A} {before : Option Files} {f : �
 stops_part {second = second} p e = stops_at {second = second} (stands p) e
 
 -- an answer whose text isn't told
-pub answers : {before : Option Files} {f : ℕ} {text : Vec ℕ Global} → IsCommand before before f f (Answers Done) (Ok text)
-answers = record { same = refl; counted = omega arith; rose = λ h. absurd h; told = λ files e. untold }
+pub answers : {text : Vec ℕ Global} → IsEnd (Answers Done) (Ok text)
+answers = record { clear = λ h. h; told = λ files. untold }
 
 -- want of memory ends a command whatever its plan is
-pub wants : {before : Option Files} {f : ℕ} {plan : Plan} → IsCommand before before f f plan (Err Memory)
-wants = record { same = refl; counted = omega arith; rose = λ h. absurd h; told = λ files e. tt }
+pub wants : {plan : Plan} → IsEnd plan (Err Memory)
+wants = record { clear = λ h. h; told = λ files. tt }
+
+-- a part and the end behind it are an end
+pub comes_in : {T A : Type 0} {view : T → A} {value : T} {first : (A → Plan) → Plan} {second : A → Plan} {result : Result (Vec ℕ Global) Early} →
+    IsPart view first (Ok value) → IsEnd (second (view value)) result → IsEnd (first second) result
+comes_in {view = view} {value = value} {first = first} {second = second} {result = result} p q = record {
+  clear = q.clear;
+  told = λ files. reaches_on view value files first second result (p.told files) (q.told files);
+}
+
+-- a `?` of an end on a part
+pub stops_in : {T A : Type 0} {view : T → A} {first : (A → Plan) → Plan} {second : A → Plan} {early : Early} {result : Result (Vec ℕ Global) Early} →
+    IsPart view first (Err early) → IsErr result × IsErrAnd result (λ e. e ≡ early) → IsEnd (first second) result
+stops_in {result = Ok u} p e = cc
+stops_in {T = T} {view = view} {first = first} {second = second} {early = early} {result = Err given} p e =
+    let P : Early → Type 0 = λ x. IsEnd (first second) (Err x) in
+    subst P (sym e.1) (record {
+      clear = λ h. p.clear (faults_ends T (Vec ℕ Global) early h);
+      told = λ files. reaches_end view files first second early (p.told files);
+    })
+
+-- an end as a command
+pub ends_command : {before : Option Files} {f : ℕ} {plan : Plan} {result : Result (Vec ℕ Global) Early} → IsEnd plan result → IsCommand before before f f plan result
+ends_command p = record { same = refl; counted = omega arith; rose = λ h. absurd (p.clear h); told = λ files e. p.told files }
 
 -- a part and the part behind it are a part
 pub goes_in : {T A U B : Type 0} {view : T → A} {value : T} {other : U → B}
@@ -243,6 +266,7 @@ ends_in {T = T} {U = U} {view = view} {other = other} {first = first} {second = 
 
 -- for a command's proof
 pub ruleset chain = (goes_on, ends_at, ends_part, stands, gives)
+
 pub ruleset parts = (goes_in, ends_in)
 
-pub ruleset command = (comes_to, stops_at, stops_part, stands, answers, wants)
+pub ruleset command = (comes_to, stops_at, stops_part, stands)

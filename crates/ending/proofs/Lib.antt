@@ -1,4 +1,5 @@
 pub mod Answers
 pub mod Follow
 pub mod Laws
+pub mod Past
 pub mod Pieces

@@ -1,12 +1,12 @@
 -- How a call ends.
-use Rattle.std.specs.Prelude.{ℕ, ◌≡◌, ◌≢◌, ◌⊎◌, Bool, true, false, List, ◌++◌, take, codes, Option, Some, IfSome, Result, Ok, Err, Vec}
+use Rattle.std.specs.Prelude.{ℕ, ◌≡◌, ◌≢◌, ◌⊎◌, Bool, true, false, List, ◌++◌, take, codes, Option, Some, None, IfSome, Result, Ok, Err, Vec}
 use Rattle.std.specs.declared.alloc.Global.{Global}
 use Rattle.ending.specs.declared.early.Early.{Early}
 use Rattle.ending.specs.declared.early.Early.TheVariants.{Said, Memory}
 use Rattle.outside.specs.Causes.{Rose}
 use Rattle.ending.specs.declared.status.Status.{Status}
-use Rattle.ending.specs.declared.status.Status.TheVariants.{Done, NoMemory, ReadFault, WriteFault}
-use Rattle.ending.specs.Plan.{Files, Plan, Comes, due}
+use Rattle.ending.specs.declared.status.Status.TheVariants.{Done, NoFile, NoMemory, ReadFault, WriteFault}
+use Rattle.ending.specs.Plan.{Files, Plan, Comes, due, line}
 
 -- the sink has taken the whole text, or a front of it with a fault
 abbrev pub Puts : Option (List ℕ) → Option (List ℕ) → ℕ → ℕ → List ℕ → Bool → Type 0
@@ -52,3 +52,9 @@ abbrev pub IsComplete : Files → Plan → List ℕ → Option (List ℕ) → St
 IsComplete files plan sink after status =
     (due files plan).0 ≡ Done → status ≢ ReadFault → status ≢ WriteFault →
     ((status ≡ Done) × IfSome (due files plan).1 (λ text. after ≡ Some (sink ++ text))) ⊎ (status ≡ NoMemory)
+
+-- the file isn't in the folder, and that is what is said
+pub record Lacks (files : Files) (name : List ℕ) (status : Status) (text : List ℕ) : Type 0 where
+  pub absent : files name ≡ None
+  pub status_is : status ≡ NoFile
+  pub text_is : text ≡ line (codes "no file ") name

@@ -55,3 +55,8 @@ pub record IsCommand (before after : Option Files) (faults later : ℕ) (plan : 
   pub counted : faults ≤ later
   pub rose : IsFault result → Rose faults later
   pub told : (files : Files) → before ≡ Some files → Reaches files plan result
+
+-- a command that takes no file
+pub record IsEnd (plan : Plan) (result : Result (Vec ℕ Global) Early) : Type 0 where
+  pub clear : IsFault result → ⊥
+  pub told : (files : Files) → Reaches files plan result
