@@ -1,5 +1,6 @@
 -- Small files and an answer, computed.
 use Rattle.std.proofs.Common.{◌≡◌, true, false, List, [], ◌∷◌, codes, refl, negsuc, Option, Some, None}
+use Rattle.std.specs.Str.{is_utf8}
 use Rattle.fl_ast.specs.declared.kind.Kind.TheVariants.{Index, Ring}
 use Rattle.fl_ast.specs.declared.kind.Intent.TheVariants.{Unsaid}
 use Rattle.fl_ast.specs.declared.decl.Decl.{Decl}
@@ -20,26 +21,30 @@ decls =
     ∷ record { line = 3; name = codes "x"; kind = Ring; intent = Unsaid; dims = record { lower = None; upper = upper } ∷ [] }
     ∷ []
 
+-- both names are text, which antt doesn't compute
+abbrev Texts : Type 0
+Texts = (is_utf8 (codes "n") ≡ true) × (is_utf8 (codes "x") ≡ true)
+
 abbrev file : Data
 file =
     object (member (codes "n") (number (unsigned 2)) (member (codes "x") (array (item (number (unsigned 5)) (item (string (codes "a")) (item (number (negative (negsuc 0))) no_items))))
     (member (codes "z") (number (unsigned 1)) no_members)))
 
 -- all faults of a file, in order
-faults : args_faults decls (codes "n" ∷ codes "x" ∷ []) file ≡ Shape (codes "x") 2 3 ∷ NotWhole (codes "x") 2 ∷ Extra (codes "z") ∷ []
-faults = refl
+faults : Texts → args_faults decls (codes "n" ∷ codes "x" ∷ []) file ≡ Shape (codes "x") 2 3 ∷ NotWhole (codes "x") 2 ∷ Extra (codes "z") ∷ []
+faults h = rw (h.0, h.1) refl
 
 -- a scalar's fault comes before an array's, even where it stands later among the names
 scalar_first :
-    faults_of [] decls (codes "x" ∷ codes "n" ∷ []) (object (member (codes "n") (number (unsigned 2147483648)) no_members)) ≡ IndexRange (codes "n") 0 ∷ Missing (codes "x") ∷ []
-scalar_first = refl
+    Texts → faults_of [] decls (codes "x" ∷ codes "n" ∷ []) (object (member (codes "n") (number (unsigned 2147483648)) no_members)) ≡ IndexRange (codes "n") 0 ∷ Missing (codes "x") ∷ []
+scalar_first h = rw (h.0, h.1) refl
 
 abbrev good : Data
 good = object (member (codes "n") (number (unsigned 2)) (member (codes "x") (array (item (number (unsigned 5)) (item (number (negative (negsuc 0))) no_items))) no_members))
 
-none : args_faults decls (codes "n" ∷ codes "x" ∷ []) good ≡ []
-none = refl
+none : Texts → args_faults decls (codes "n" ∷ codes "x" ∷ []) good ≡ []
+none h = rw (h.0, h.1) refl
 
-entries : entries_of decls (codes "n" ∷ codes "x" ∷ []) good
+entries : Texts → entries_of decls (codes "n" ∷ codes "x" ∷ []) good
     ≡ record { name = codes "n"; scalar = true; words = 2 ∷ [] } ∷ record { name = codes "x"; scalar = false; words = 5 ∷ 18446744073709551615 ∷ [] } ∷ []
-entries = refl
+entries h = rw (h.0, h.1) refl

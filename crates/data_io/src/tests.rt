@@ -49,6 +49,7 @@ fn data_and_seed_go_in(rt: HostRuntime) -> Result<(), Fail> {
     let (layout, store) = stored(rt.alloc())?;
     let copy = store.copy(rt.alloc())?;
     assert_eq!(rt; copy.words(), [5, u64::MAX, 0, 7].as_slice());
+    assert_eq!(rt; layout.count(), 2);
     assert_eq!(rt; layout.name_of(rt.alloc(), 1)?.as_slice(), b"y".as_slice());
     Ok(())
 }
