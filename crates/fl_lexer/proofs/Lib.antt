@@ -7,4 +7,5 @@ pub mod TextSpelling
 pub mod Placing
 pub mod Refusing
 pub mod ReadBack
+pub mod Lexemes
 pub mod Promises

@@ -104,7 +104,7 @@ text_is Dots bs rest i = i
 text_is Sentinel bs rest i = absurd i
 text_is LineEnd bs rest i = absurd i
 
-slice_is : (whole bs more : List ℕ) (at : ℕ) → drop at whole ≡ bs ++ more → slice_range whole at (at + length bs) ≡ bs
+pub slice_is : (whole bs more : List ℕ) (at : ℕ) → drop at whole ≡ bs ++ more → slice_range whole at (at + length bs) ≡ bs
 slice_is whole bs more at h =
     let e : at + length bs - at ≡ length bs = omega arith in
     ap (λ n. take n (drop at whole)) e ∙ ap (λ cs. take (length bs) cs) h ∙ take_front bs more

@@ -53,49 +53,49 @@ no_return_byte : (b : ℕ) → is_plain b ≡ true → b ≡ 13 → ⊥
 no_return_byte b h e = absurd (let g : false ≡ true = subst (λ (n : ℕ). is_plain n ≡ true) e h in cc)
 
 -- neither a line feed nor a carriage return
-calm : ℕ → Bool
-calm b = not (is_line_feed b) && not (eqb b 13)
+unbroken : ℕ → Bool
+unbroken b = not (is_line_feed b) && not (eqb b 13)
 
-calm_plain : (b : ℕ) → is_plain b ≡ true → calm b ≡ true
-unfolding calm
-calm_plain b h = grind (arith, nat_tests)
+unbroken_plain : (b : ℕ) → is_plain b ≡ true → unbroken b ≡ true
+unfolding unbroken
+unbroken_plain b h = grind (arith, nat_tests)
 
-calm_feed : (b : ℕ) → calm b ≡ true → is_line_feed b ≡ false
-unfolding calm
-calm_feed b h = grind (arith, nat_tests)
+unbroken_feed : (b : ℕ) → unbroken b ≡ true → is_line_feed b ≡ false
+unfolding unbroken
+unbroken_feed b h = grind (arith, nat_tests)
 
-calm_return : (b : ℕ) → calm b ≡ true → b ≡ 13 → ⊥
-unfolding calm
-calm_return b h e = absurd (let g : false ≡ true = subst (λ (n : ℕ). (not (is_line_feed n) && not (eqb n 13)) ≡ true) e h in cc)
+unbroken_return : (b : ℕ) → unbroken b ≡ true → b ≡ 13 → ⊥
+unfolding unbroken
+unbroken_return b h e = absurd (let g : false ≡ true = subst (λ (n : ℕ). (not (is_line_feed n) && not (eqb n 13)) ≡ true) e h in cc)
 
-no_feed : (bs : List ℕ) → Each calm bs → NoFeed bs
+no_feed : (bs : List ℕ) → Each unbroken bs → NoFeed bs
 no_feed [] e = tt
-no_feed (b ∷ bs) e = (calm_feed b e.0, no_feed bs e.1)
+no_feed (b ∷ bs) e = (unbroken_feed b e.0, no_feed bs e.1)
 
-calm_blanks : (n : ℕ) → Each calm (replicate n 32)
-unfolding calm
-calm_blanks zero = tt
-calm_blanks (suc n) = (refl, calm_blanks n)
+unbroken_blanks : (n : ℕ) → Each unbroken (replicate n 32)
+unfolding unbroken
+unbroken_blanks zero = tt
+unbroken_blanks (suc n) = (refl, unbroken_blanks n)
 
-calm_opening : (d : Bool) → Each calm (opening d)
-unfolding calm
-calm_opening true = (refl, (refl, (refl, (refl, (refl, (refl, tt))))))
-calm_opening false = tt
+unbroken_opening : (d : Bool) → Each unbroken (opening d)
+unfolding unbroken
+unbroken_opening true = (refl, (refl, (refl, (refl, (refl, (refl, tt))))))
+unbroken_opening false = tt
 
-calm_joint : (g : Bool) → Each calm (joint_of g)
-unfolding calm
-calm_joint true = (refl, tt)
-calm_joint false = tt
+unbroken_joint : (g : Bool) → Each unbroken (joint_of g)
+unfolding unbroken
+unbroken_joint true = (refl, tt)
+unbroken_joint false = tt
 
-calm_content : (l : Printed) → IsPrinted l → Each calm (content l)
-calm_content l i =
+unbroken_content : (l : Printed) → IsPrinted l → Each unbroken (content l)
+unbroken_content l i =
     let words = text_of l.words in
-    each_append calm (replicate l.indent 32) (opening l.directive ++ (words ++ joint_of l.goes_on)) (calm_blanks l.indent)
-    (each_append calm (opening l.directive) (words ++ joint_of l.goes_on) (calm_opening l.directive)
-    (each_append calm words (joint_of l.goes_on) (each_weaker is_plain calm words calm_plain i.plain) (calm_joint l.goes_on)))
+    each_append unbroken (replicate l.indent 32) (opening l.directive ++ (words ++ joint_of l.goes_on)) (unbroken_blanks l.indent)
+    (each_append unbroken (opening l.directive) (words ++ joint_of l.goes_on) (unbroken_opening l.directive)
+    (each_append unbroken words (joint_of l.goes_on) (each_weaker is_plain unbroken words unbroken_plain i.plain) (unbroken_joint l.goes_on)))
 
-calm_last : (bs : List ℕ) → Each calm bs → 0 < length bs → get_or bs (length bs - 1) 0 ≡ 13 → ⊥
-calm_last bs e some h = calm_return (get_or bs (length bs - 1) 0) (each_at calm bs (length bs - 1) e (omega arith)) h
+unbroken_last : (bs : List ℕ) → Each unbroken bs → 0 < length bs → get_or bs (length bs - 1) 0 ≡ 13 → ⊥
+unbroken_last bs e some h = unbroken_return (get_or bs (length bs - 1) 0) (each_at unbroken bs (length bs - 1) e (omega arith)) h
 
 -- The lines of the text.
 
@@ -110,9 +110,9 @@ no_text = refl
 printed_lines : (ls : List Printed) → ArePrinted ls → lines (printed ls) ≡ lines_of ls
 printed_lines [] a = no_text
 printed_lines (l ∷ ls) a =
-    let calm_bytes = calm_content l a.0 in
-    lines-feed (content l) (printed ls) (no_feed (content l) calm_bytes)
-    ∙ ap (λ m. m ∷ lines (printed ls)) (with_feed-plain (content l) (calm_last (content l) calm_bytes))
+    let unbroken_bytes = unbroken_content l a.0 in
+    lines-feed (content l) (printed ls) (no_feed (content l) unbroken_bytes)
+    ∙ ap (λ m. m ∷ lines (printed ls)) (with_feed-plain (content l) (unbroken_last (content l) unbroken_bytes))
     ∙ ap (λ ms. line_of l ∷ ms) (printed_lines ls a.2)
 
 -- What a line is.
@@ -332,8 +332,8 @@ directive_spelled p continued l ls i d goes =
     let from = prefix_len is_blank (content l) in
     let is = directive_is l i d in
     let xs = spelt Blank (32 ∷ []) ∷ l.words in
-    let calm_words : Each no_amp (32 ∷ text_of l.words) = (refl, plain_amp l i) in
-    let g = text_goes l.goes_on (32 ∷ text_of l.words) calm_words in
+    let unbroken_words : Each no_amp (32 ∷ text_of l.words) = (refl, plain_amp l i) in
+    let g = text_goes l.goes_on (32 ∷ text_of l.words) unbroken_words in
     let same = indent_is l i in
     let at : from + 5 + 0 + 1 ≡ l.indent + 6 = omega (arith, same) in
     let spelled = spells_by p Directive (from + 5) 0 (line_of l) (lines_of ls) xs l.goes_on (ap goes_on is ∙ g.0) (ap body_of is ∙ g.1) ((32, refl, refl), i.longest) goes in

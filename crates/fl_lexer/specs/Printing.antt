@@ -74,3 +74,22 @@ printed_tokens p continued [] = []
 printed_tokens p continued (l ∷ ls) =
     (sentinel_of p continued l ++ (tokens_of p (l.indent + length (opening l.directive)) l.words ++ end_of_line p l))
     ++ printed_tokens (after p (line_of l)) l.goes_on ls
+
+-- what the tokens of printed lines are beside their places
+abbrev pub lexical : ℕ → TokenKind → List ℕ → Lexeme
+lexical line kind bytes = record { line = line; kind = kind; bytes = str_to_ascii_lowercase bytes }
+
+abbrev pub lexeme_of : ℕ → PieceKind → List ℕ → List Lexeme
+lexeme_of line (Lexical kind) bytes = lexical line kind bytes ∷ []
+lexeme_of line _ bytes = []
+
+abbrev pub word_lexemes : ℕ → List Spelt → List Lexeme
+word_lexemes line [] = []
+word_lexemes line (x ∷ xs) = lexeme_of line x.kind x.bytes ++ word_lexemes line xs
+
+abbrev pub printed_lexemes : ℕ → Bool → List Printed → List Lexeme
+printed_lexemes line continued [] = []
+printed_lexemes line continued (l ∷ ls) =
+    ((if l.directive then (if continued then [] else lexical line Sentinel (codes "!$omp") ∷ []) else [])
+    ++ (word_lexemes line l.words ++ (if l.goes_on then [] else lexical line LineEnd (10 ∷ []) ∷ [])))
+    ++ printed_lexemes (line + 1) l.goes_on ls

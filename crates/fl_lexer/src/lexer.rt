@@ -1,12 +1,13 @@
 //! Reading a text, line by line and piece by piece.
 
-ghost use Rattle.std.specs.Prelude.{◌≡◌, ◌≢◌, ◌==◌, ◌&&◌, if◌then◌else◌, ◌<◌, ◌≤◌, ◌+◌, ◌-◌, ◌^◌, [], ◌∷◌, ◌++◌, length, drop, false, List, Ok, IfOk, IfErr};
+ghost use Rattle.std.specs.Prelude.{◌≡◌, ◌≢◌, ◌==◌, ◌&&◌, if◌then◌else◌, ◌<◌, ◌≤◌, ◌+◌, ◌-◌, ◌^◌, [], ◌∷◌, ◌++◌, length, drop, false, List, map, Ok, IfOk, IfErr};
 ghost use Rattle.fl_base.specs.Finds.{Finds};
 ghost use Rattle.tokens.specs.Spans.{Are_spans};
 ghost use Rattle.fl_lexer.specs.Reading as spec;
 ghost use Rattle.fl_lexer.specs.Spelling.{Spells};
 ghost use Rattle.fl_lexer.specs.Placement.{InOrder};
-ghost use Rattle.fl_lexer.specs.Printing.{Printed, ArePrinted, printed, printed_tokens};
+ghost use Rattle.fl_lexer.specs.Printing.{Printed, ArePrinted, printed, printed_tokens, printed_lexemes};
+ghost use Rattle.tokens.specs.Lexeme.{lexeme};
 ghost use Rattle.fl_lexer.specs.Refusals.{refusals, IsFirst};
 ghost use Rattle.fl_lexer.specs.Reading.{Reads, Gives};
 ghost use Rattle.fl_lexer.specs.Bytes.{is_blank, begins};
@@ -336,7 +337,8 @@ pub fn lex(alloc: Global, text: &[u8]) -> Result<Vec<Token>, LexError>
 /// A text that a printer writes is read back: the tokens of its lines, each at its place, whatever blanks stand
 /// between them where none could be longer.
 pub fn printed_is_read_back()
-    ensures { (ls : List Printed) → ArePrinted ls → spec.lexed (printed ls) ≡ Ok (printed_tokens spec.first_place false ls) }
+    ensures tokens { (ls : List Printed) → ArePrinted ls → spec.lexed (printed ls) ≡ Ok (printed_tokens spec.first_place false ls) }
+    ensures lexemes { (ls : List Printed) → map (lexeme (printed ls)) (printed_tokens spec.first_place false ls) ≡ printed_lexemes 1 false ls }
 {}
 
 #[cfg(test)]

@@ -65,7 +65,7 @@ fn read(alloc: Global, text: &str) -> Result<Vec<Token>, LexError>
 }
 
 #[test]
-fn texts_are_read(rt: HostRuntime) -> Result<(), Fail> {
+fn lines_are_read(rt: HostRuntime) -> Result<(), Fail> {
     for (text, want) in [
         // Lines.
         ("", ""),
@@ -79,7 +79,7 @@ fn texts_are_read(rt: HostRuntime) -> Result<(), Fail> {
         ("a\r\r\n", " bad byte 1:2"),
         ("! a\rb\r\n", ""),
         // Comments.
-        (" \t! x = \u{e9}\n", ""),
+        (" \t! x = @\n", ""),
         ("a ! b\n", " W1:1+1 E1:6+1"),
         ("a!\n", " W1:1+1 E1:3+1"),
         ("a!$omp b\n", " W1:1+1 E1:9+1"),
@@ -121,7 +121,18 @@ fn texts_are_read(rt: HostRuntime) -> Result<(), Fail> {
         ("!$omp a &\nb\n", " open continuation 1"),
         ("!$omp a &\n!$ b\n", " open continuation 1"),
         ("!$omp a &\n", " open continuation 1"),
-        // Tokens.
+    ] {
+        let mut shown = String::new(rt.alloc());
+        assert!(rt; text.len() < 100);
+        show(&mut shown, &read(rt.alloc(), text))?;
+        assert_eq!(rt; shown.as_str(), want, "at {text:?}");
+    }
+    Ok(())
+}
+
+#[test]
+fn tokens_are_read(rt: HostRuntime) -> Result<(), Fail> {
+    for (text, want) in [
         ("aB_9 _a", " bad byte 1:6"),
         ("a_ 9a", " W1:1+2 N1:4+1=9_0 W1:5+1 E1:6+0"),
         ("1_8 1_4 0", " N1:1+3=1_8 N1:5+3=1_4 N1:9+1=0_0 E1:10+0"),
@@ -164,7 +175,6 @@ fn texts_are_read(rt: HostRuntime) -> Result<(), Fail> {
         ("a.eq", " bad byte 1:2"),
         ("1.5", " bad byte 1:2"),
         ("a;b", " bad byte 1:2"),
-        ("\u{e9}", " bad byte 1:1"),
     ] {
         let mut shown = String::new(rt.alloc());
         assert!(rt; text.len() < 100);
@@ -209,5 +219,9 @@ fn limits_are_exact(rt: HostRuntime) -> Result<(), Fail> {
         show(&mut shown, &lex(rt.alloc(), text.as_bytes()))?;
         assert_eq!(rt; shown.as_str(), want, "at {front:?}, {times} and {back:?}");
     }
+    // A comment holds any bytes.
+    let mut shown = String::new(rt.alloc());
+    show(&mut shown, &lex(rt.alloc(), b"! \xc3\xa9\n \xc3"))?;
+    assert_eq!(rt; shown.as_str(), " bad byte 2:2");
     Ok(())
 }
