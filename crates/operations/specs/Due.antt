@@ -55,3 +55,7 @@ sum_tree (p ∷ ps) x = load_tree p >>= (λ y. sum_tree ps (ring_add x y))
 -- that sum, added to a cell
 abbrev pub add_sum_tree : List ℕ → ℕ → Tree (Unit {0})
 add_sum_tree ps q = sum_tree ps 0 >>= (λ x. op_tree (Add q x))
+
+-- an increment by a load and a store
+abbrev pub bump_tree : ℕ → ℕ → Tree (Unit {0})
+bump_tree p a = load_tree p >>= (λ x. op_tree (Bump p a))

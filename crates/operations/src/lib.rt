@@ -9,4 +9,4 @@ mod sums;
 
 pub use cells::{Cells, VecCells};
 pub use op::Op;
-pub use sums::{add_sum, sum};
+pub use sums::{add_sum, bump, sum};

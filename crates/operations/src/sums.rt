@@ -1,6 +1,6 @@
 ghost use Rattle.std.specs.Prelude.{◌≡◌};
 ghost use Rattle.operations.specs.Tree.{play};
-ghost use Rattle.operations.specs.Due.{Due, Swept, sum_tree, add_sum_tree};
+ghost use Rattle.operations.specs.Due.{Due, Swept, sum_tree, add_sum_tree, bump_tree};
 
 use crate::cells::Cells;
 
@@ -28,4 +28,16 @@ pub fn add_sum<C: Cells>(cells: &mut C, places: &[u32], target: u32)
 {
     let amount = sum(cells, places, 0);
     cells.add(target, amount);
+}
+
+/// Adds to a cell by a load and a store, which is right where no other iteration is at the cell.
+pub fn bump<C: Cells>(cells: &mut C, p: u32, amount: u64)
+    requires { Due (bump_tree p amount) (C.cells cells.old) (C.due cells.old) }
+    ensures swept { Swept (play (bump_tree p amount) (C.cells cells.old)) (C.cells cells.new)
+        (C.due cells.old) (C.due cells.new) (tt {0}) }
+    ensures home { C.home cells.new ≡ C.home cells.old }
+{
+    let word = cells.load(p);
+    let sum = word.wrapping_add(amount);
+    cells.store(p, sum);
 }
