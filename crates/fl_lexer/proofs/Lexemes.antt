@@ -1,16 +1,14 @@
 -- The lexemes of a text that a printer writes.
-use Rattle.std.proofs.Common.{◌≡◌, ℕ, zero, suc, ◌+◌, ◌-◌, ◌<◌, ◌≤◌, Bool, true, false, cond, List, [], ◌∷◌, ◌++◌, length, take, drop, slice_range, map, refl, ap, sym, ◌∙◌, subst, arith, append_assoc, length-append}
+use Rattle.std.proofs.Common.{◌≡◌, ℕ, ◌+◌, Bool, true, false, cond, List, [], ◌∷◌, ◌++◌, length, drop, slice_range, map, refl, ap, sym, ◌∙◌, arith, append_assoc}
 use Rattle.std.specs.Prelude.{replicate, codes}
-use Rattle.std.specs.Str.{str_to_ascii_lowercase}
 use Rattle.std.proofs.lemmas.List.{length-replicate, map-append}
 use Rattle.tokens.specs.Lexeme.{Lexeme, lexeme}
-use Rattle.tokens.specs.declared.Token.{Token}
 use Rattle.tokens.specs.declared.TokenKind.{TokenKind}
 use Rattle.tokens.specs.declared.TokenKind.TheVariants.{Sentinel, LineEnd}
 use Rattle.fl_lexer.specs.declared.piece.PieceKind.{PieceKind}
 use Rattle.fl_lexer.specs.declared.piece.PieceKind.TheVariants.{Blank, Lexical, BadByte, LongName, WideLiteral}
 use Rattle.fl_lexer.specs.declared.line.LinePlace.{LinePlace}
-use Rattle.fl_lexer.specs.Reading.{Tokens, token, line_end, after, first_place}
+use Rattle.fl_lexer.specs.Reading.{token, line_end, after, first_place}
 use Rattle.fl_lexer.specs.Spelling.{Spelt, text_of, token_of, tokens_of}
 use Rattle.fl_lexer.specs.Printing.{Printed, opening, joint_of, content, printed, line_of, sentinel_of, end_of_line, printed_tokens, lexical, lexeme_of, word_lexemes, printed_lexemes}
 use Rattle.fl_lexer.proofs.PieceSpelling.{drop_front, drop_both}

@@ -4,7 +4,6 @@ use Rattle.std.proofs.lemmas.List.{take_all}
 use Rattle.std.proofs.Math.ListN.{drop_of_length-le}
 use Rattle.std.proofs.lemmas.Bool.Decides.{nat_tests}
 use Rattle.std.specs.List.{position_or_len}
-use Rattle.fl_lexer.specs.declared.line.Ending.{Ending}
 use Rattle.fl_lexer.specs.declared.line.Ending.TheVariants.{Missing, LineFeed, CrLf}
 use Rattle.fl_lexer.specs.Bytes.{is_line_feed}
 use Rattle.fl_lexer.specs.Lines.{Line, line, longer, ahead, lines, with_feed}

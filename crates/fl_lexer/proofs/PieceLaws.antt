@@ -1,11 +1,10 @@
 -- The piece that bytes begin with takes at least one byte and no more than there are.
-use Rattle.std.proofs.Common.{◌≡◌, ℕ, zero, suc, ◌+◌, ◌-◌, ◌<◌, ◌≤◌, Bool, true, false, cond, eqb, ◌&&◌, ◌||◌, List, [], ◌∷◌, ◌++◌, length, take, drop, Option, Some, None, refl, ap, sym, ◌∙◌, subst, arith, length-drop}
-use Rattle.std.specs.Prelude.{is_some, if◌then◌else◌}
+use Rattle.std.proofs.Common.{◌≡◌, ℕ, suc, ◌+◌, ◌-◌, ◌<◌, ◌≤◌, Bool, true, false, cond, eqb, ◌&&◌, ◌||◌, List, [], ◌∷◌, length, take, drop, Some, None, refl, ap, arith, length-drop}
 use Rattle.std.specs.List.{prefix_len}
 use Rattle.std.proofs.lemmas.List.Sums.{prefix_len-le-length}
 use Rattle.fl_lexer.specs.declared.piece.Piece.{Piece}
 use Rattle.fl_lexer.specs.Bytes.{is_blank, is_letter, is_digit, is_word, is_mark, is_pair, begins}
-use Rattle.fl_lexer.specs.Pieces.{suffix_of, suffix_len_of, number_of, name_of, dots_of, mark_of, piece_of, is_dot_word}
+use Rattle.fl_lexer.specs.Pieces.{suffix_of, suffix_len_of, number_of, dots_of, mark_of, piece_of, is_dot_word}
 
 -- what holds at each branch holds of the choice
 pub chosen : {A : Type 0} (t : Bool) (x y : A) (P : A → Type 0) → (t ≡ true → P x) → (t ≡ false → P y) → P (cond t x y)

@@ -1,6 +1,6 @@
 -- A piece that is spelled so is read, and a piece that is read is spelled so.
-use Rattle.std.proofs.Common.{◌≡◌, ℕ, zero, suc, ◌+◌, ◌-◌, ◌<◌, ◌≤◌, Bool, true, false, cond, eqb, leb, ◌&&◌, ◌||◌, ◌⊎◌, inl, inr, List, [], ◌∷◌, ◌++◌, length, take, drop, Option, Some, None, refl, ap, sym, ◌∙◌, subst, arith, length-drop, length-append, append_assoc}
-use Rattle.std.specs.Prelude.{is_some, if◌then◌else◌, nat_le}
+use Rattle.std.proofs.Common.{◌≡◌, ℕ, zero, suc, ◌+◌, ◌-◌, ◌<◌, ◌≤◌, Bool, true, false, cond, eqb, ◌&&◌, ◌||◌, ◌⊎◌, inl, inr, List, [], ◌∷◌, ◌++◌, length, take, drop, Option, Some, None, refl, ap, sym, ◌∙◌, subst, arith, length-append, append_assoc}
+use Rattle.std.specs.Prelude.{if◌then◌else◌, nat_le}
 use Rattle.std.specs.List.{prefix_len}
 use Rattle.std.proofs.lemmas.List.Sums.{prefix_len-le-length}
 use Rattle.std.proofs.lemmas.Bool.Decides.{nat_tests}
@@ -11,7 +11,7 @@ use Rattle.fl_lexer.specs.declared.piece.PieceKind.{PieceKind}
 use Rattle.fl_lexer.specs.declared.piece.PieceKind.TheVariants.{Blank, Lexical, BadByte, LongName, WideLiteral}
 use Rattle.fl_lexer.specs.Bytes.{is_blank, is_letter, is_digit, is_word, is_mark, is_pair, begins}
 use Rattle.fl_lexer.specs.Pieces.{piece, suffix_of, suffix_len_of, literal, number_from, number_of, name_of, dots_of, mark_of, piece_of, is_dot_word}
-use Rattle.fl_lexer.specs.Spelling.{Each, IsName, IsDigits, IsSuffix, IsNumber, EndsNumber, IsDots, IsOneMark, IsTwoMarks, IsLexical, IsPiece}
+use Rattle.fl_lexer.specs.Spelling.{Each, IsName, IsDigits, IsSuffix, EndsNumber, IsOneMark, IsTwoMarks, IsLexical, IsPiece}
 use Rattle.std.proofs.lemmas.List.{length-take-le, drop-drop}
 use Rattle.fl_lexer.proofs.PieceLaws.{chosen}
 

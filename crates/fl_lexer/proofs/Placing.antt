@@ -1,5 +1,5 @@
 -- The tokens that a text spells are slices of it, in order.
-use Rattle.std.proofs.Common.{◌≡◌, ℕ, zero, suc, ◌+◌, ◌-◌, ◌<◌, ◌≤◌, Bool, true, false, cond, eqb, ◌&&◌, List, [], ◌∷◌, ◌++◌, length, take, drop, slice_range, inl, inr, refl, ap, sym, ◌∙◌, subst, arith, append_assoc, append-nil, length-append, length-drop}
+use Rattle.std.proofs.Common.{◌≡◌, ℕ, zero, suc, ◌+◌, ◌-◌, ◌<◌, ◌≤◌, Bool, true, false, cond, eqb, ◌&&◌, List, [], ◌∷◌, ◌++◌, length, take, drop, slice_range, inl, inr, refl, ap, sym, ◌∙◌, subst, arith, append_assoc, length-append, length-drop}
 use Rattle.std.specs.Prelude.{codes}
 use Rattle.std.specs.List.{prefix_len, position_or_len}
 use Rattle.std.specs.Char.{to_ascii_lowercase}
@@ -7,9 +7,7 @@ use Rattle.std.specs.Str.{str_to_ascii_lowercase}
 use Rattle.std.proofs.lemmas.List.{take-append-drop, take-append-le}
 use Rattle.std.proofs.lemmas.List.Sums.{prefix_len-le-length}
 use Rattle.std.proofs.Math.Seq.{take-length}
-use Rattle.std.proofs.lemmas.Bool.Decides.{nat_tests}
 use Rattle.tokens.specs.Spans.{Are_spans}
-use Rattle.tokens.specs.declared.Token.{Token}
 use Rattle.tokens.specs.declared.TokenKind.{TokenKind}
 use Rattle.tokens.specs.declared.TokenKind.TheVariants.{Word, Number, Mark, Dots, Sentinel, LineEnd}
 use Rattle.fl_lexer.specs.declared.piece.PieceKind.{PieceKind}
@@ -21,8 +19,8 @@ use Rattle.fl_lexer.specs.declared.line.LineClass.{LineClass}
 use Rattle.fl_lexer.specs.declared.line.LineClass.TheVariants.{Empty, Conditional, Statement, Directive}
 use Rattle.fl_lexer.specs.Bytes.{is_blank, is_bang, is_line_feed, is_either, begins}
 use Rattle.fl_lexer.specs.Lines.{Line, line, longer, ahead, lines, ending_len, class_of, class_of_text, class_of_bang, is_sentinel, is_conditional, ends_word, text_from, goes_on, body_of, trimmed_len}
-use Rattle.fl_lexer.specs.Reading.{Tokens, token, line_end, joint, after, first_place, leaves_open}
-use Rattle.fl_lexer.specs.Spelling.{IsPiece, IsLexical, Spelt, spelt, text_of, AreLongest, token_of, tokens_of, end_of, SpellsText, SpellsClass, SpellLines, Spells}
+use Rattle.fl_lexer.specs.Reading.{Tokens, token, joint, after, first_place, leaves_open}
+use Rattle.fl_lexer.specs.Spelling.{IsPiece, IsLexical, Spelt, text_of, AreLongest, token_of, tokens_of, end_of, SpellsText, SpellsClass, SpellLines, Spells}
 use Rattle.fl_lexer.specs.Placement.{ending_bytes, text_of_lines, IsText, InOrder}
 use Rattle.fl_lexer.proofs.PieceLaws.{chosen, begins_some}
 use Rattle.fl_lexer.proofs.PieceSpelling.{take_front, drop_front, drop_both, and_first, and_second, same_byte}
@@ -213,9 +211,6 @@ sentinel_is b (c ∷ d ∷ e ∷ f ∷ bs) h s =
           ∙ ap (λ n. 33 ∷ 36 ∷ 111 ∷ n ∷ to_ascii_lowercase f ∷ []) third
           ∙ ap (λ n. 33 ∷ 36 ∷ 111 ∷ 109 ∷ n ∷ []) fourth,
     )
-
-other_class : {A : Type 0} (c d : LineClass) → c ≡ d → (c ≡ d → A) → A
-other_class c d e f = f e
 
 bang_directive : (b : ℕ) (bs : List ℕ) → is_bang b ≡ true → class_of_bang bs ≡ Directive → HasSentinel (b ∷ bs)
 bang_directive b bs h e =

@@ -1,5 +1,5 @@
 -- What a call that answers as `lexed` does promises.
-use Rattle.std.proofs.Common.{◌≡◌, ◌≢◌, List, ℕ, Result, Ok, Err, Vec, Global, refl, ap, sym, ◌∙◌}
+use Rattle.std.proofs.Common.{◌≡◌, ◌≢◌, List, ℕ, Result, Ok, Err, Vec, Global, sym, ◌∙◌}
 use Rattle.std.specs.Prelude.{[], IfOk, IfErr}
 use Rattle.tokens.specs.Spans.{Are_spans}
 use Rattle.tokens.specs.declared.Token.{Token}

@@ -1,23 +1,20 @@
 -- A text that a printer writes is read back.
-use Rattle.std.proofs.Common.{◌≡◌, ℕ, zero, suc, ◌+◌, ◌-◌, ◌<◌, ◌≤◌, Bool, true, false, cond, not, eqb, ◌||◌, ◌&&◌, List, [], ◌∷◌, ◌++◌, length, take, drop, get_or, Ok, refl, ap, sym, ◌∙◌, subst, arith, append_assoc, append-nil, length-append, length-drop}
-use Rattle.std.specs.Prelude.{replicate, reverse, nat_lt, codes}
-use Rattle.std.specs.List.{prefix_len, position_or_len, suffix_len}
-use Rattle.std.proofs.lemmas.List.{reverse-append, length-replicate, length-take-le}
+use Rattle.std.proofs.Common.{◌≡◌, ℕ, zero, suc, ◌+◌, ◌-◌, ◌<◌, ◌≤◌, Bool, true, false, cond, not, eqb, ◌&&◌, List, [], ◌∷◌, ◌++◌, length, take, drop, get_or, Ok, refl, ap, sym, ◌∙◌, subst, arith, append-nil, length-append}
+use Rattle.std.specs.Prelude.{replicate, nat_lt}
+use Rattle.std.specs.List.{prefix_len, suffix_len}
+use Rattle.std.proofs.lemmas.List.{reverse-append, length-replicate}
 use Rattle.std.proofs.Math.Seq.{take-length}
 use Rattle.std.proofs.lemmas.Bool.Decides.{nat_tests}
-use Rattle.tokens.specs.declared.Token.{Token}
 use Rattle.tokens.specs.declared.TokenKind.TheVariants.{Sentinel}
 use Rattle.fl_lexer.specs.declared.piece.PieceKind.TheVariants.{Blank}
-use Rattle.fl_lexer.specs.declared.line.Ending.TheVariants.{LineFeed}
 use Rattle.fl_lexer.specs.declared.line.LinePlace.{LinePlace}
 use Rattle.fl_lexer.specs.declared.line.LineClass.{LineClass}
-use Rattle.fl_lexer.specs.declared.line.LineClass.TheVariants.{Empty, Conditional, Statement, Directive}
+use Rattle.fl_lexer.specs.declared.line.LineClass.TheVariants.{Statement, Directive}
 use Rattle.fl_lexer.specs.Bytes.{is_blank, is_bang, is_line_feed, begins}
-use Rattle.fl_lexer.specs.Lines.{Line, line, lines, with_feed, class_of, class_of_text, class_of_bang, text_from, text_start, goes_on, body_of, trimmed_len, next_class, or_else, continues}
+use Rattle.fl_lexer.specs.Lines.{Line, lines, class_of, class_of_text, class_of_bang, text_from, goes_on, body_of, trimmed_len, next_class, or_else, continues}
 use Rattle.fl_lexer.specs.Reading.{Tokens, token, line_end, joint, after, first_place, leaves_open, lexed}
-use Rattle.fl_lexer.specs.Spelling.{Each, IsPiece, Spelt, spelt, text_of, AreLongest, token_of, tokens_of, Goes, end_of, SpellsText, SpellsClass, SpellLines, Spells}
+use Rattle.fl_lexer.specs.Spelling.{Each, Spelt, spelt, text_of, AreLongest, tokens_of, Goes, end_of, SpellsText, SpellsClass, SpellLines, Spells}
 use Rattle.fl_lexer.specs.Printing.{Printed, opening, joint_of, content, printed, is_plain, IsPrinted, Follows, ArePrinted, line_of, sentinel_of, end_of_line, printed_tokens}
-use Rattle.fl_lexer.proofs.PieceLaws.{chosen}
 use Rattle.fl_lexer.proofs.PieceSpelling.{each_len, take_front, drop_front, drop_both}
 use Rattle.fl_lexer.proofs.LineLaws.{NoFeed, lines-feed, with_feed-plain}
 use Rattle.fl_lexer.proofs.TextSpelling.{lexed_again}
@@ -40,17 +37,11 @@ each_at p (b ∷ bs) (suc k) e h = each_at p bs k e.1 (omega (arith, h))
 all_pass : (p : ℕ → Bool) (bs : List ℕ) → Each p bs → prefix_len p bs ≡ length bs
 all_pass p bs e = ap (prefix_len p) (sym (append-nil bs)) ∙ each_len p bs [] e refl
 
-no_feed_byte : (b : ℕ) → is_plain b ≡ true → is_line_feed b ≡ false
-no_feed_byte b h = grind (arith, nat_tests)
-
 no_bang_byte : (b : ℕ) → is_plain b ≡ true → not (is_bang b) ≡ true
 no_bang_byte b h = grind (arith, nat_tests)
 
 no_amp_byte : (b : ℕ) → is_plain b ≡ true → eqb b 38 ≡ false
 no_amp_byte b h = grind (arith, nat_tests)
-
-no_return_byte : (b : ℕ) → is_plain b ≡ true → b ≡ 13 → ⊥
-no_return_byte b h e = absurd (let g : false ≡ true = subst (λ (n : ℕ). is_plain n ≡ true) e h in cc)
 
 -- neither a line feed nor a carriage return
 unbroken : ℕ → Bool

@@ -1,5 +1,5 @@
 -- Reading goes on behind what was read.
-use Rattle.std.proofs.Common.{◌≡◌, ℕ, zero, suc, ◌+◌, ◌-◌, ◌<◌, ◌≤◌, Bool, true, false, cond, List, [], ◌∷◌, ◌++◌, length, take, drop, Ok, Err, refl, ap, sym, ◌∙◌, subst, arith, add-zero, length-drop}
+use Rattle.std.proofs.Common.{◌≡◌, ℕ, zero, suc, ◌+◌, ◌-◌, ◌<◌, ◌≤◌, Bool, List, [], ◌∷◌, length, take, drop, Ok, Err, refl, ap, sym, ◌∙◌, subst, arith, add-zero, length-drop}
 use Rattle.std.proofs.lemmas.List.{take_all, drop-drop}
 use Rattle.fl_lexer.specs.declared.piece.Piece.{Piece}
 use Rattle.fl_lexer.specs.declared.error.Refusal.{Refusal}

@@ -1,5 +1,5 @@
 -- What reading refuses is the first of all that the rules refuse.
-use Rattle.std.proofs.Common.{◌≡◌, ℕ, zero, suc, ◌+◌, ◌-◌, ◌<◌, ◌≤◌, Bool, true, false, cond, List, [], ◌∷◌, ◌++◌, length, take, drop, ◌⊎◌, inl, inr, Ok, Err, Result, refl, ap, sym, ◌∙◌, subst, arith, append_assoc, append-nil, length-append, length-drop}
+use Rattle.std.proofs.Common.{◌≡◌, ℕ, zero, suc, ◌+◌, ◌-◌, ◌<◌, ◌≤◌, Bool, true, false, cond, List, [], ◌∷◌, ◌++◌, length, take, drop, ◌⊎◌, inl, inr, Ok, Err, Result, refl, ap, sym, ◌∙◌, subst, arith, append-nil, length-append, length-drop}
 use Rattle.std.specs.Prelude.{nat_lt}
 use Rattle.std.specs.List.{prefix_len, position_or_len}
 use Rattle.std.proofs.lemmas.List.{length-take-le, length-take}
@@ -15,13 +15,13 @@ use Rattle.fl_lexer.specs.declared.line.LineClass.{LineClass}
 use Rattle.fl_lexer.specs.declared.line.LineClass.TheVariants.{Empty, Conditional, Statement, Directive}
 use Rattle.fl_lexer.specs.Bytes.{is_blank, is_bang}
 use Rattle.fl_lexer.specs.Pieces.{piece_of}
-use Rattle.fl_lexer.specs.Lines.{Line, lines, class_of, class_of_text, class_of_bang, text_from, goes_on, body_of, trimmed_len, next_class, continues}
-use Rattle.fl_lexer.specs.Reading.{Tokens, Reading, ◌>>=◌, with_piece, pieces, token, line_end, ended, text, joint, directive, of_class, sooner, within_limit, one_line, all_lines, after, first_place, leaves_open, told, lexed}
+use Rattle.fl_lexer.specs.Lines.{Line, lines, class_of, class_of_text, text_from, goes_on, body_of, trimmed_len, next_class, continues}
+use Rattle.fl_lexer.specs.Reading.{Tokens, Reading, ◌>>=◌, with_piece, pieces, token, ended, text, joint, directive, of_class, sooner, within_limit, one_line, all_lines, after, first_place, leaves_open, told, lexed}
 use Rattle.fl_lexer.specs.Refusals.{refusal, bad_piece, bad_pieces, bad_end, bad_text, bad_class, too_long, bad_lines, refusals, Every, Among, IsLongLine, Decides, IsFirst}
-use Rattle.fl_lexer.proofs.PieceLaws.{chosen, piece_within}
+use Rattle.fl_lexer.proofs.PieceLaws.{chosen}
 use Rattle.fl_lexer.proofs.TextSpelling.{bind_ok, limit_found, not_below}
 use Rattle.fl_lexer.proofs.PieceSpelling.{and_first}
-use Rattle.fl_lexer.proofs.Placing.{text_in_line, joint_within, directive_has}
+use Rattle.fl_lexer.proofs.Placing.{text_in_line, directive_has}
 
 -- Lists of refusals.
 

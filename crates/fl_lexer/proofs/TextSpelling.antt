@@ -1,14 +1,12 @@
 -- A text is read exactly where it spells its tokens.
 use Rattle.std.proofs.Common.{◌≡◌, ℕ, zero, suc, ◌+◌, ◌-◌, ◌<◌, ◌≤◌, Bool, true, false, cond, List, [], ◌∷◌, ◌++◌, length, take, drop, Ok, Err, Result, refl, ap, sym, ◌∙◌, subst, arith, append_assoc, append-nil, length-append}
-use Rattle.std.specs.Prelude.{nat_lt, if◌then◌else◌}
+use Rattle.std.specs.Prelude.{nat_lt}
 use Rattle.std.specs.List.{prefix_len}
 use Rattle.std.proofs.lemmas.List.{take-append-drop, length-take-le}
 use Rattle.std.proofs.lemmas.Bool.Decides.{nat_tests}
-use Rattle.tokens.specs.declared.Token.{Token}
 use Rattle.tokens.specs.declared.TokenKind.TheVariants.{Sentinel}
 use Rattle.fl_lexer.specs.declared.error.LexError.{LexError}
 use Rattle.fl_lexer.specs.declared.error.Refusal.{Refusal}
-use Rattle.fl_lexer.specs.declared.piece.Piece.{Piece}
 use Rattle.fl_lexer.specs.declared.piece.PieceKind.{PieceKind}
 use Rattle.fl_lexer.specs.declared.piece.PieceKind.TheVariants.{Blank, Lexical, BadByte, LongName, WideLiteral}
 use Rattle.fl_lexer.specs.declared.line.LinePlace.{LinePlace}
@@ -155,9 +153,6 @@ text_again p class from skipped l ls ts vs (xs, e, a, g, u) =
     (pieces-skipped p skipped from (body_of bytes) ts ∙ ap (λ bs. pieces p 0 (from + skipped) bs ts) e ∙ pieces_again p (from + skipped) xs ts a)
     ∙ ended_again p class from l ls (ts ++ mid) g
     ∙ ap (λ us. Ok us) (append_assoc ts mid end ∙ ap (λ us. ts ++ us) (sym u))
-
-opened : Bool → LinePlace → ℕ → Tokens
-opened continued p from = cond continued [] (token p from 5 Sentinel ∷ [])
 
 sentinel_found : (continued : Bool) (p : LinePlace) (from : ℕ) (ts : Tokens) →
     cond continued ts (ts ++ token p from 5 Sentinel ∷ []) ≡ ts ++ cond continued [] (token p from 5 Sentinel ∷ [])

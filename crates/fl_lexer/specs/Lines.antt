@@ -1,12 +1,12 @@
 -- The lines of a text, what each line is, and where its text goes on.
-use Rattle.std.specs.Prelude.{ℕ, ◌+◌, ◌-◌, Bool, true, false, ◌&&◌, ◌||◌, ◌==◌, nat_lt, if◌then◌else◌, List, [], ◌∷◌, ◌++◌, length, take, drop, slice_index}
+use Rattle.std.specs.Prelude.{ℕ, ◌+◌, ◌-◌, Bool, true, false, ◌&&◌, ◌==◌, nat_lt, if◌then◌else◌, List, [], ◌∷◌, length, take, drop, slice_index}
 use Rattle.std.specs.List.{prefix_len, suffix_len, before_first}
 use Rattle.fl_lexer.specs.declared.line.LineClass.{LineClass}
 use Rattle.fl_lexer.specs.declared.line.LineClass.TheVariants.{Empty, Conditional, Statement, Directive}
 use Rattle.fl_lexer.specs.declared.line.Ending.{Ending}
 use Rattle.fl_lexer.specs.declared.line.Ending.TheVariants.{Missing, LineFeed, CrLf}
 use Rattle.fl_lexer.specs.declared.line.Line as declared
-use Rattle.fl_lexer.specs.Bytes.{is_blank, is_bang, is_line_feed, is_either, begins}
+use Rattle.fl_lexer.specs.Bytes.{is_blank, is_bang, is_line_feed, is_either}
 
 -- a line without its end, and how it ends
 pub record Line : Type 0 where

@@ -1,9 +1,7 @@
 -- The pieces of a line outside comments: blanks, tokens and what is refused, one behind the other, each as long as can be.
-use Rattle.std.specs.Prelude.{◌≡◌, ℕ, zero, suc, ◌+◌, ◌-◌, ◌*◌, Bool, true, false, ◌||◌, ◌&&◌, ◌==◌, nat_le, nat_lt, if◌then◌else◌, List, [], ◌∷◌, ◌++◌, length, take, drop, Option, Some, None, is_some, Result, Ok, Err, codes, bytes_eq}
+use Rattle.std.specs.Prelude.{ℕ, ◌+◌, ◌-◌, ◌*◌, Bool, ◌||◌, ◌&&◌, ◌==◌, nat_le, if◌then◌else◌, List, [], ◌∷◌, take, drop, Option, Some, None, is_some, codes, bytes_eq}
 use Rattle.std.specs.List.{prefix_len, list_any}
 use Rattle.std.specs.Str.{str_to_ascii_lowercase}
-use Rattle.tokens.specs.declared.Token.{Token}
-use Rattle.tokens.specs.declared.TokenKind.{TokenKind}
 use Rattle.tokens.specs.declared.TokenKind.TheVariants.{Word, Number, Mark, Dots}
 use Rattle.fl_lexer.specs.declared.piece.Piece.{Piece}
 use Rattle.fl_lexer.specs.declared.piece.PieceKind.{PieceKind}

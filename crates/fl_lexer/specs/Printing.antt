@@ -1,12 +1,12 @@
 -- Texts as a printer writes them: lines of tokens and blanks, indented, some of which go on.
-use Rattle.std.specs.Prelude.{◌≡◌, ℕ, ◌+◌, ◌≤◌, Bool, true, false, ◌||◌, not, ◌==◌, if◌then◌else◌, List, [], ◌∷◌, ◌++◌, length, map, replicate, codes}
+use Rattle.std.specs.Prelude.{◌≡◌, ℕ, ◌+◌, ◌≤◌, Bool, true, false, ◌||◌, not, ◌==◌, if◌then◌else◌, List, [], ◌∷◌, ◌++◌, length, replicate, codes}
 use Rattle.std.specs.Str.{str_to_ascii_lowercase}
 use Rattle.tokens.specs.Lexeme.{Lexeme}
 use Rattle.tokens.specs.declared.Token.{Token}
 use Rattle.tokens.specs.declared.TokenKind.{TokenKind}
 use Rattle.tokens.specs.declared.TokenKind.TheVariants.{Sentinel, LineEnd}
 use Rattle.fl_lexer.specs.declared.piece.PieceKind.{PieceKind}
-use Rattle.fl_lexer.specs.declared.piece.PieceKind.TheVariants.{Blank, Lexical, BadByte, LongName, WideLiteral}
+use Rattle.fl_lexer.specs.declared.piece.PieceKind.TheVariants.{Lexical}
 use Rattle.fl_lexer.specs.declared.line.Ending.TheVariants.{LineFeed}
 use Rattle.fl_lexer.specs.declared.line.LinePlace.{LinePlace}
 use Rattle.fl_lexer.specs.Bytes.{is_blank, begins}

@@ -1,5 +1,5 @@
 -- The tokens of a text, or what is refused in it.
-use Rattle.std.specs.Prelude.{◌≡◌, ◌≢◌, ℕ, zero, suc, ◌+◌, ◌-◌, Bool, true, false, ◌&&◌, ◌==◌, nat_lt, if◌then◌else◌, List, [], ◌∷◌, ◌++◌, length, take, drop, Option, Some, None, Result, Ok, Err}
+use Rattle.std.specs.Prelude.{◌≡◌, ℕ, zero, suc, ◌+◌, ◌-◌, Bool, false, ◌&&◌, ◌==◌, nat_lt, if◌then◌else◌, List, [], ◌∷◌, ◌++◌, length, drop, Result, Ok, Err}
 use Rattle.std.specs.List.{prefix_len}
 use Rattle.std.specs.declared.alloc.Global.{Global}
 use Rattle.std.specs.declared.vec.Vec.{Vec}
@@ -11,7 +11,6 @@ use Rattle.fl_lexer.specs.declared.error.LexError.TheVariants as errors
 use Rattle.fl_lexer.specs.declared.error.Refusal.{Refusal}
 use Rattle.fl_lexer.specs.declared.error.Halt.{Halt}
 use Rattle.fl_lexer.specs.declared.error.Halt.TheVariants.{Memory, Refused}
-use Rattle.fl_lexer.specs.declared.piece.Piece.{Piece}
 use Rattle.fl_lexer.specs.declared.piece.PieceKind.{PieceKind}
 use Rattle.fl_lexer.specs.declared.piece.PieceKind.TheVariants.{Blank, Lexical, BadByte, LongName, WideLiteral}
 use Rattle.fl_lexer.specs.declared.line.LineClass.{LineClass}

@@ -1,12 +1,12 @@
 -- All that the rules refuse in a text, and which of it decides.
-use Rattle.std.specs.Prelude.{◌≡◌, ℕ, zero, suc, ◌+◌, ◌-◌, ◌<◌, Bool, true, false, ◌&&◌, not, nat_lt, if◌then◌else◌, List, [], ◌∷◌, ◌++◌, length, ◌⊎◌}
+use Rattle.std.specs.Prelude.{◌≡◌, ℕ, zero, suc, ◌+◌, ◌-◌, ◌<◌, Bool, false, nat_lt, if◌then◌else◌, List, [], ◌∷◌, ◌++◌, length, ◌⊎◌}
 use Rattle.std.specs.List.{prefix_len}
 use Rattle.fl_lexer.specs.declared.error.LexError.{LexError}
 use Rattle.fl_lexer.specs.declared.error.LexError.TheVariants as errors
 use Rattle.fl_lexer.specs.declared.error.LexError.TheVariants.{LongLine}
 use Rattle.fl_lexer.specs.declared.error.Refusal.{Refusal}
 use Rattle.fl_lexer.specs.declared.piece.PieceKind.{PieceKind}
-use Rattle.fl_lexer.specs.declared.piece.PieceKind.TheVariants.{Blank, Lexical, BadByte, LongName, WideLiteral}
+use Rattle.fl_lexer.specs.declared.piece.PieceKind.TheVariants.{BadByte, LongName, WideLiteral}
 use Rattle.fl_lexer.specs.declared.line.LineClass.{LineClass}
 use Rattle.fl_lexer.specs.declared.line.LineClass.TheVariants.{Empty, Conditional, Statement, Directive}
 use Rattle.fl_lexer.specs.declared.line.LinePlace.{LinePlace}

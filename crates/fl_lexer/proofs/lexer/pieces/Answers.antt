@@ -1,4 +1,4 @@
-use Rattle.std.proofs.Common.{◌≡◌, ◌+◌, drop, sym, ◌∙◌, arith}
+use Rattle.std.proofs.Common.{◌+◌, drop, sym, ◌∙◌, arith}
 use Rattle.std.proofs.lemmas.Result.{err_from_is_err_and}
 use Rattle.fl_lexer.specs.Reading as spec
 use Rattle.fl_lexer.proofs.ReadLaws.{pieces-skipped, pieces-turn, pieces-err, pieces-end, piece_fits, piece_is, some_left, rest_none, fails_too}

@@ -1,4 +1,4 @@
-use Rattle.std.proofs.Common.{ap, arith, rules}
+use Rattle.std.proofs.Common.{rules}
 use Rattle.fl_lexer.proofs.LineLaws.{first_bare, first_feed}
 use Rattle.fl_lexer.proofs.line.first_line.Goals as goal
 

@@ -1,5 +1,4 @@
-use Rattle.std.proofs.Common.{◌≡◌, ◌+◌, ◌-◌, ◌*◌, ◌≤◌, get_or, drop, ap, sym, ◌∙◌, arith}
-use Rattle.fl_lexer.specs.Pieces.{number_from}
+use Rattle.std.proofs.Common.{◌+◌, ◌-◌, ◌*◌, get_or, drop, arith}
 use Rattle.fl_lexer.proofs.NumberLaws.{number_from-drop, number_from-le}
 use Rattle.fl_lexer.proofs.piece.value_of.Goals as goal
 
