@@ -5,6 +5,7 @@ pub mod LawProofs
 pub mod Reported
 pub mod Powers
 pub mod Slots
+pub mod Variables
 pub mod ByKeys
 mod Accessed
 mod Lines

@@ -1,5 +1,7 @@
 -- Laws of the meaning: what runs in different directions have in common.
-use Rattle.std.specs.Prelude.{◌≡◌, ℕ, List, [], ◌∷◌, map, Result, Ok, Err}
+use Rattle.std.specs.Prelude.{◌≡◌, ℕ, ◌<◌, ℤ, pos, ◌+ℤ◌, ◌-ℤ◌, ◌*ℤ◌, int_div, List, [], ◌∷◌, map, Result, Ok, Err}
+use Rattle.ring_core.specs.Index.{IsIndex}
+use Rattle.store_core.specs.Bounds.{clipped}
 use Rattle.ring_core.specs.Ring.{ring_add, ring_mul}
 use Rattle.fl_ast.specs.Tree.{Expression, Condition, Statements}
 use Rattle.dual_meaning.specs.Expressions.{value_of, holds}
@@ -49,3 +51,9 @@ abbrev pub ValuesGoByKeys : Type 0
 ValuesGoByKeys =
     (s t : Site) (cells : Cells) → s.keys ≡ t.keys →
     ((e : Expression) → (value_of e s cells).out ≡ (value_of e t cells).out) × ((c : Condition) → (holds c s cells).out ≡ (holds c t cells).out)
+
+-- the variable of a loop whose bounds are of the index kind is of the index kind in each turn
+abbrev pub VariablesFit : Type 0
+VariablesFit =
+    (first last step : ℤ) (k : ℕ) → IsIndex first → IsIndex last → k < clipped (int_div ((last -ℤ first) +ℤ step) step) →
+    IsIndex (first +ℤ (pos k *ℤ step))

@@ -1,4 +1,4 @@
-ghost use Rattle.dual_meaning.specs.Laws.{TangentsAreUnseen, TangentsAreLinear, ConflictIsReported, ValuesGoByKeys};
+ghost use Rattle.dual_meaning.specs.Laws.{TangentsAreUnseen, TangentsAreLinear, ConflictIsReported, ValuesGoByKeys, VariablesFit};
 
 /// Values, events, conflicts and traps of a program don't depend on the tangents that it begins with.
 pub fn tangents_are_unseen()
@@ -18,4 +18,9 @@ pub fn conflict_is_reported()
 /// What an expression or a condition is worth doesn't depend on the loops around it.
 pub fn values_go_by_keys()
     ensures { ValuesGoByKeys }
+{}
+
+/// The variable of a loop never leaves the range of the index kind.
+pub fn variables_fit()
+    ensures { VariablesFit }
 {}
