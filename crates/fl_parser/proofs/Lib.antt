@@ -1,3 +1,4 @@
+pub mod Depths
 pub mod Exprs
 pub mod Texts
 pub mod Turns

@@ -24,6 +24,8 @@ use Rattle.fl_parser.specs.UnitReading as p
 use Rattle.parsing.proofs.Outcomes.{never, differ}
 use Rattle.parsing.proofs.Exact.{Exact}
 use Rattle.parsing.proofs.Whole.{found, only, refused, freed, unfreed}
+use Rattle.fl_parser.specs.Depth.{Is_within}
+use Rattle.fl_parser.proofs.Depths.{unit_within}
 use Rattle.fl_parser.proofs.Units.{unit_exact}
 
 same_limit : (cause : Cause) (d : Limit) → Frees Nothing cause d d
@@ -101,6 +103,10 @@ pub found_by : (text : List ℕ) (tokens : List Token) (r : Result Program Parse
 unfolding parsed
 found_by text tokens (Ok x) h = found Nothing (g.unit the_limits) never (p.unit the_limits) (p.unit the_limits) reads_limits (map (lexeme text) tokens) x (placed_ok text tokens _ x h)
 found_by text tokens (Err e) h = tt
+
+pub within_by : (text : List ℕ) (tokens : List Token) (r : Result Program ParseError) → Finds (λ p. p) Memory (parsed text tokens) r → IfOk r Is_within
+within_by text tokens (Ok x) h = unit_within x (map (lexeme text) tokens) (found_by text tokens (Ok x) h)
+within_by text tokens (Err e) h = tt
 
 pub only_by : (text : List ℕ) (tokens : List Token) (r : Result Program ParseError) → Finds (λ p. p) Memory (parsed text tokens) r →
     (x : Program) → g.unit the_limits x (map (lexeme text) tokens) → Finds (λ p. p) Memory (Ok x) r

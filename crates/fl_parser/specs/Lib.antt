@@ -1,3 +1,4 @@
+pub mod Depth
 pub mod ExprGrammar
 pub mod ExprReading
 pub mod Nests

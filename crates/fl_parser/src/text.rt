@@ -7,6 +7,7 @@ ghost use Rattle.tokens.specs.Lexeme.{lexeme};
 ghost use Rattle.tokens.specs.Spans.{Are_spans};
 ghost use Rattle.parsing.specs.Refusal.{all_of};
 ghost use Rattle.parsing.specs.Code.{Gives};
+ghost use Rattle.fl_parser.specs.Depth.{Is_within};
 ghost use Rattle.fl_parser.specs.Parsed.{parsed};
 ghost use Rattle.fl_parser.specs.Refuses.{Refuses};
 ghost use Rattle.fl_parser.specs.Trees as trees;
@@ -55,6 +56,7 @@ pub fn parse(alloc: Global, text: &[u8], tokens: &[Token]) -> Result<Program, Pa
     // What is read is spelled so, and what is spelled so is read.
     ensures found { IfOk result (λ p. grammar.unit trees.the_limits p (map (lexeme text.now) tokens.now)) }
     ensures only { (p : Program) → grammar.unit trees.the_limits p (map (lexeme text.now) tokens.now) → Finds (λ p. p) ParseError.Memory (Ok p) result }
+    ensures within { IfOk result Is_within }
 
     // A refusal has the first place at which no program goes on, and tells whether a limit is why.
     ensures refused { IfErr result (λ e. e ≢ ParseError.Memory → Refuses text.now tokens.now e) }
