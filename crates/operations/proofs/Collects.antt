@@ -1,11 +1,11 @@
 -- Additions to one cell, collected and made at the end.
-use Rattle.std.proofs.Common.{◌≡◌, ◌≢◌, ℕ, zero, suc, ◌+◌, ◌==◌, List, [], ◌∷◌, ◌++◌, refl, ap, sym, ◌∙◌, subst, arith, Bool, true, false, eqb-true}
-use Rattle.std.specs.Prelude.{slice_index, slice_set}
+use Rattle.std.proofs.Common.{◌≡◌, ℕ, zero, suc, ◌==◌, List, [], ◌∷◌, refl, ap, sym, ◌∙◌, subst, arith, Bool, true, false, eqb-true}
+use Rattle.std.specs.Prelude.{slice_index}
 use Rattle.ring_core.specs.Ring.{ring_add}
 use Rattle.operations.specs.declared.op.Op.{Op}
 use Rattle.operations.specs.declared.op.Op.TheVariants.{Load, Store, Bump, Add}
-use Rattle.operations.specs.Ops.{acts, acts_all, may_meet, Clear, ClearAll, Apart}
-use Rattle.operations.specs.Tree.{Tree, done, loads, does, Played, play, IsPast}
+use Rattle.operations.specs.Ops.{acts, acts_all, Clear, ClearAll, Apart}
+use Rattle.operations.specs.Tree.{Tree, done, loads, does, play, IsPast}
 use Rattle.operations.specs.Collect.{collect_add, collect}
 use Rattle.operations.proofs.Trees.{past_back_all}
 

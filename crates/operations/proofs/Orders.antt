@@ -1,5 +1,5 @@
 -- Lists of operations under the discipline: alone, jointly, and in any order.
-use Rattle.std.proofs.Common.{◌≡◌, ◌≢◌, ℕ, zero, suc, ◌+◌, ◌<◌, ◌≤◌, ◌==◌, if◌then◌else◌, Bool, true, false, List, [], ◌∷◌, ◌++◌, length, take, drop, refl, ap, sym, ◌∙◌, subst, arith, append_assoc, append-nil, add-one, eq-eqb, ne_eqb}
+use Rattle.std.proofs.Common.{◌≡◌, ◌≢◌, ℕ, zero, suc, ◌+◌, ◌<◌, ◌≤◌, true, false, List, [], ◌∷◌, ◌++◌, take, drop, refl, ap, sym, ◌∙◌, subst, arith, append_assoc, append-nil, eq-eqb, ne_eqb}
 use Rattle.std.proofs.lemmas.List.{take_all}
 use Rattle.std.specs.Prelude.{slice_index, slice_set}
 use mathlib.Core.Logic.{dite}
@@ -7,8 +7,8 @@ use native.Mathlib.Decide.{ℕ_discrete}
 use Rattle.ring_core.specs.Ring.{ring_add}
 use Rattle.operations.specs.declared.op.Op.{Op}
 use Rattle.operations.specs.declared.op.Op.TheVariants.{Load, Store, Bump, Add}
-use Rattle.operations.specs.Ops.{cell_of, acts, acts_all, may_meet, Clear, ClearAll, Apart}
-use Rattle.operations.specs.Tree.{Tree, done, ◌>>=◌, Played, play, then_play, IsPast}
+use Rattle.operations.specs.Ops.{cell_of, acts, acts_all, Clear, ClearAll, Apart}
+use Rattle.operations.specs.Tree.{Tree, done, ◌>>=◌, Played, play, IsPast}
 use Rattle.operations.specs.Order.{in_order, IsDisciplined, alone, rounds, chunk, joint, went, Machine, cells_by, last_by, put, next, step, steps, is_add, start, AllBelow, Follows, FollowsLoad, AllEnded}
 use Rattle.operations.proofs.OpLaws.{read_other, read_clear, clear_sym, acts_all-append, move, move_all, apart_right, apart_left, apart_none}
 use Rattle.operations.proofs.Trees.{bind, by_ops, past_all}

@@ -1,5 +1,5 @@
 -- Additions to one cell, collected and made once at the end.
-use Rattle.std.specs.Prelude.{ℕ, Bool, true, false, ◌==◌, List}
+use Rattle.std.specs.Prelude.{ℕ, Bool, true, false, ◌==◌}
 use Rattle.ring_core.specs.Ring.{ring_add}
 use Rattle.operations.specs.declared.op.Op.{Op}
 use Rattle.operations.specs.declared.op.Op.TheVariants.{Load, Store, Bump, Add}
