@@ -4,8 +4,8 @@ use Rattle.program_stage.proofs.syntax.program_of.Goals as goal
 
 pub returns-in-Ok : goal.returns-in-Ok
 unfolding Rattle.program_stage.specs.Parsing.parsed_stage
-returns-in-Ok c = finds _ _ c.in-Ok.ensures
+returns-in-Ok c = finds _ _ c.in-Ok.ensures.parsed
 
 pub returns-in-Err : goal.returns-in-Err
 unfolding Rattle.program_stage.specs.Parsing.parsed_stage
-returns-in-Err c = refuses _ _ _ _ c.in-Err.ensures c.parse_refused.ensures parse_faultless
+returns-in-Err c = refuses _ _ _ _ c.in-Err.ensures.parsed c.parse_refused.ensures parse_faultless
