@@ -1,6 +1,8 @@
 //! The program `formad`: it reads a Fortran subroutine, its data and a seed, and writes what its adjoint gives.
 #![tactic(auto)]
 
+#[cfg(test)]
+mod tests;
 mod top;
 mod words;
 

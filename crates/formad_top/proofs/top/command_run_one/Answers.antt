@@ -20,6 +20,6 @@ pub returns : goal.returns
 returns g c =
     let h = answered _ c.run_one-outcome.ensures c.finish.ensures in
     let P : Plan → Type 0 = λ p.
-        IsAnswer (g.F.Folder.contents c.args.folder.now) (g.F.Folder.faults c.args.folder.now) (g.F.Folder.faults c.run_one-outcome.new.folder)
-        (g.O.Sink.taken c.args.out.now) (g.O.Sink.taken c.finish.new.out) (g.O.Sink.faults c.args.out.now) (g.O.Sink.faults c.finish.new.out) p c.finish.result in
+    IsAnswer (g.F.Folder.contents c.args.folder.now) (g.F.Folder.faults c.args.folder.now) (g.F.Folder.faults c.run_one-outcome.new.folder)
+    (g.O.Sink.taken c.args.out.now) (g.O.Sink.taken c.finish.new.out) (g.O.Sink.faults c.args.out.now) (g.O.Sink.faults c.finish.new.out) p c.finish.result in
     subst P (parts_plan c.args.words.now c.file-1.given.0 c.values-1.given.0 c.seed-1.given.0 c.of-1.given.0 c.wrt-1.given.0) (rw (c.as_slice.ensures, c.as_slice-2.ensures) at h)
