@@ -1,4 +1,4 @@
-ghost use Rattle.std.specs.Prelude.{◌≡◌, ◌*◌, IsTrue, length};
+ghost use Rattle.std.specs.Prelude.{◌≡◌, ◌*◌, OnOk, length};
 ghost use Rattle.store_core.specs.Keys.{keys_of};
 
 use adjoint_sweep::{Scratch, sweep_all};
@@ -25,48 +25,6 @@ fn all_active(alloc: Global, typed: &Typed) -> Result<NameSet, Memory> {
     })
 }
 
-/// Whether the store has a value cell and an adjoint cell for each place.
-fn is_paired(layout: &Layout, store: &Store) -> bool
-    ensures { IsTrue result → length store.now ≡ 2 * length (keys_of layout.now) }
-{
-    store.len() == 2 * layout.count() as usize
-}
-
-/// The values of names. The sweeps keep the store's length, which their contracts don't say yet, so it is asked here.
-fn values(
-    alloc: Global,
-    layout: &Layout,
-    store: &Store,
-    names: &[Name],
-) -> Result<Weights, Memory> {
-    if !is_paired(layout, store) {
-        return Err(Memory);
-    }
-    layout.values_of(alloc, store, names)
-}
-
-/// The adjoints of names, where the store has its length, as above.
-fn adjoints(
-    alloc: Global,
-    layout: &Layout,
-    store: &Store,
-    names: &[Name],
-) -> Result<Weights, Memory> {
-    if !is_paired(layout, store) {
-        return Err(Memory);
-    }
-    layout.adjoints_of(alloc, store, names)
-}
-
-/// Puts the weights into the store, where it has its length, as above.
-fn seed(layout: &Layout, store: &mut Store, weights: &Weights) -> Result<(), Memory> {
-    if !is_paired(layout, store) {
-        return Err(Memory);
-    }
-    layout.seed(store, weights);
-    Ok(())
-}
-
 /// The adjoint for all arguments.
 fn tree_of(alloc: Global, typed: &Typed, choices: &Choices) -> Result<Adjoint, Memory> {
     let active = all_active(alloc, typed)?;
@@ -82,10 +40,13 @@ fn forwards<L: Ledger>(
     of: &[Name],
     store: &mut Store,
     steps: &mut Steps<L>,
-) -> Result<(Weights, Tape), Memory> {
+) -> Result<(Weights, Tape), Memory>
+    requires { length store.old ≡ 2 * length (keys_of layout.now) }
+    ensures { OnOk result (length store.new ≡ 2 * length (keys_of layout.now)) }
+{
     let tape = forward(alloc, tree, layout, store, steps)?;
-    let value = values(alloc, layout, store, of)?;
-    seed(layout, store, weights)?;
+    let value = layout.values_of(alloc, store, of)?;
+    layout.seed(store, weights);
     Ok((value, tape))
 }
 
@@ -97,10 +58,12 @@ fn backwards(
     wrt: &[Name],
     store: Store,
     tape: Tape,
-) -> Result<Weights, Memory> {
+) -> Result<Weights, Memory>
+    requires { length store ≡ 2 * length (keys_of layout.now) }
+{
     let scratch = Scratch::make(alloc, tree, layout)?;
     let store = sweep_all(alloc, &scratch, store, tape)?;
-    adjoints(alloc, layout, &store, wrt)
+    layout.adjoints_of(alloc, &store, wrt)
 }
 
 /// The values of the names of `of`, and the adjoints of those of `wrt`.
@@ -113,7 +76,9 @@ fn swept<L: Ledger>(
     of: &[Name],
     wrt: &[Name],
     steps: &mut Steps<L>,
-) -> Result<(Weights, Weights), Memory> {
+) -> Result<(Weights, Weights), Memory>
+    requires { length store ≡ 2 * length (keys_of layout.now) }
+{
     let (value, tape) = forwards(alloc, tree, layout, weights, of, &mut store, steps)?;
     let adjoint = backwards(alloc, tree, layout, wrt, store, tape)?;
     Ok((value, adjoint))
