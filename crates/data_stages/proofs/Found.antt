@@ -13,7 +13,7 @@ use Rattle.store_core.specs.declared.layout.LayoutError.TheVariants as laying
 use Rattle.store_core.specs.declared.values.Args.{Args}
 use Rattle.store_core.specs.declared.values.Weights.{Weights}
 use Rattle.fl_ast.specs.declared.stmt.Program.{Program}
-use Rattle.store_core.specs.Keys.{keys_of, Lays}
+use Rattle.store_core.specs.Keys.{keys_of, LaysWithin}
 use Rattle.data_io.specs.declared.data.DataError.{DataError}
 use Rattle.data_io.specs.declared.data.DataError.TheVariants as reading
 use Rattle.data_io.specs.Rule.{Answers, IsJson, no_json, no_args, no_weights, args_faults, args_of, faults_of, seed_of}
@@ -38,7 +38,7 @@ layout_faultless laying.TooManyPlaces h = cc
 layout_faultless laying.Memory h = cc
 
 -- the layout that is found
-pub lays_found : (result : Result (List Shape) LayoutError) (shapes : List Shape) → Lays result shapes → Finds {T = List Shape} (λ l. l) laying.Memory (laid_out shapes) result
+pub lays_found : (result : Result (List Shape) LayoutError) (shapes : List Shape) → LaysWithin (2 ^ 20) result shapes → Finds {T = List Shape} (λ l. l) laying.Memory (laid_out shapes) result
 lays_found (Ok layout) shapes h =
     let test : nat_le (length (keys_of shapes)) (2 ^ 20) ≡ true = grind (arith, nat_tests, h.1) in
     rw test (ap (λ l. Ok l) (sym h.0))

@@ -5,6 +5,11 @@ pub mod LawProofs
 pub mod Reported
 pub mod Powers
 pub mod Slots
+pub mod Located
+pub mod Counts
+pub mod Forms
+pub mod RunsByKeys
+pub mod Turning
 pub mod Variables
 pub mod ByKeys
 mod Accessed

@@ -11,11 +11,12 @@ use Rattle.dual_meaning.specs.declared.value.Dual.{Dual}
 use Rattle.dual_meaning.specs.declared.value.Value.{Value}
 use Rattle.dual_meaning.specs.declared.value.Value.TheVariants.{Index, Ring}
 use Rattle.dual_meaning.specs.declared.value.Cause.{Cause}
+use Rattle.dual_meaning.specs.declared.value.Turns.{Turns}
 use Rattle.dual_meaning.specs.Values.{dual_add, dual_sub, converted, wholes}
 use Rattle.dual_meaning.specs.Logs.{Log, single, pushes, instance, turn, iteration, condition, taken, Passage, Told, after, inside, at_line, at_line_by}
 use Rattle.dual_meaning.specs.Sites.{Cells, Site, in_turn, in_iteration, place_of, kind_of, word_of}
 use Rattle.dual_meaning.specs.Expressions.{content, value_of, values_of}
-use Rattle.dual_meaning.specs.Statements.{Run, noted, set_log, stored, saving, put, plain, terms_of, grown, grow_cell, grow, increment, assigned, Turns, turns_by, step_value, turns_of, value_at, set_at, setting, turns, private_names, unset_all, content_at, private_words, one_turn, one_iteration, run_loop, chosen, in_arm, run, run_all, run_arms}
+use Rattle.dual_meaning.specs.Statements.{Run, noted, set_log, stored, saving, put, plain, terms_of, grown, grow_cell, grow, increment, assigned, turns_by, step_value, turns_of, value_at, set_at, setting, turns, private_names, unset_all, content_at, private_words, one_turn, one_iteration, run_loop, chosen, in_arm, run, run_all, run_arms}
 use Rattle.dual_meaning.proofs.Trios.{Closed, Duals, Trio, Trios, Outs, Tells, Equals, TrioCell, TrioCells, bind, pured, dual_trio, add_duals, sub_duals, whole_trio, wholes_trio, content_trio, touching_trio, value_trio, values_trio, holds_trio}
 
 -- a run that tells three times the same

@@ -1,9 +1,10 @@
 -- The name of the slot that was found for a name is that name.
-use Rattle.std.specs.Prelude.{◌≡◌, ℕ, suc, Bool, true, false, cond, List, [], ◌∷◌, Option, Some, None, option_map, bytes_eq, refl}
-use Rattle.std.proofs.Common.{ap, sym, ◌∙◌, subst}
+use Rattle.std.specs.Prelude.{◌≡◌, ℕ, zero, suc, ◌<◌, length, Bool, true, false, cond, List, [], ◌∷◌, Option, Some, None, option_map, bytes_eq, refl}
+use Rattle.std.proofs.Common.{ap, sym, ◌∙◌, subst, arith}
 use Rattle.std.proofs.lemmas.Slice.Eq.{bytes_eq-Decides}
 use Rattle.store_core.specs.declared.layout.Shape.{Shape}
-use Rattle.store_core.specs.Keys.{slot_of}
+use Rattle.store_core.specs.Keys.{slot_of, IsApart, HasEachOnce}
+use Rattle.store_core.proofs.Slots.{turned, same_name}
 use Rattle.std.specs.Prelude.{map, is_some, ◌++◌}
 use Rattle.std.proofs.lemmas.Bool.{and_from, and_parts, lt-ltb}
 use Rattle.std.proofs.lemmas.List.{map-append}
@@ -53,3 +54,14 @@ pub within_push : (n : ℕ) (codes : List Code) (code : Code) → are_within n c
 within_push n codes code h g =
     let P : List Bool → Type 0 = λ bs. all_of bs ≡ true in
     subst P (sym (map-append (is_within n) codes (code ∷ []))) (all_more (map (is_within n) codes) (is_within n code) h g)
+
+apart_name : (es : List Shape) (k : ℕ) (x : List ℕ) → IsApart x es → k < length es → bytes_eq (slot_name es k) x ≡ false
+apart_name [] k x h l = absurd (omega arith)
+apart_name (e ∷ es) zero x h l = turned x e.name _ h.0 refl
+apart_name (e ∷ es) (suc k) x h l = apart_name es k x h.1 (omega arith)
+
+-- names that stand once are found at their slots
+pub slot_again : (es : List Shape) (k : ℕ) → HasEachOnce es → k < length es → slot_of es (slot_name es k) ≡ Some k
+slot_again [] k h l = absurd (omega arith)
+slot_again (s ∷ es) zero h l = rw (same_name s.name) refl
+slot_again (s ∷ es) (suc k) h l = rw (apart_name es k s.name h.0 (omega arith)) (ap (option_map suc) (slot_again es k h.1 (omega arith)))

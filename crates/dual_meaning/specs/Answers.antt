@@ -1,12 +1,14 @@
 -- What a call answers of an evaluation.
-use Rattle.std.specs.Prelude.{◌≡◌, List, [], ◌++◌, Result, Ok, Err, false}
-use Rattle.store_core.specs.declared.layout.Shape.{Shape}
-use Rattle.store_core.specs.Keys.{keys_of}
+use Rattle.std.specs.Prelude.{◌≡◌, ℕ, ℤ, List, ◌++◌, Option, Result, Ok, Err}
+use Rattle.fl_ast.specs.Tree.{Designator}
 use Rattle.dual_meaning.specs.declared.value.Value.{Value}
 use Rattle.dual_meaning.specs.declared.value.Cause.{Cause}
+use Rattle.dual_meaning.specs.Values.{wholes}
+use Rattle.dual_meaning.specs.Logs.{Told, pure, ◌>>=◌}
+use Rattle.dual_meaning.specs.Sites.{Cells, Site, place_of}
+use Rattle.dual_meaning.specs.Expressions.{values_of}
 use Rattle.dual_meaning.specs.declared.evaluator.EvalStop.{EvalStop}
 use Rattle.dual_meaning.specs.declared.evaluator.EvalStop.TheVariants.{Trap, Memory}
-use Rattle.dual_meaning.specs.Sites.{Site}
 
 -- the evaluation's value or its cause, unless memory is wanting
 abbrev pub Answers : {A : Type 0} → Result A EvalStop → Result A Cause → Type 0
@@ -14,20 +16,22 @@ Answers (Ok a) r = r ≡ Ok a
 Answers (Err (Trap c)) r = r ≡ Err c
 Answers (Err Memory) r = Unit {0}
 
--- outside every parallel loop, the cells being those of a layout
-abbrev pub quiet_site : List Shape → Site
-quiet_site shapes = record {
-  keys = keys_of shapes;
-  declared = [];
-  ring = λ x. false;
-  pushed = λ x. false;
-  outer = [];
-  accessed = λ x. false;
-  pluses = λ x. false;
-  number = 0;
-}
+-- the same, `view` giving what the answer stands for
+abbrev pub AnswersBy : {T A : Type 0} → (T → A) → Result T EvalStop → Result A Cause → Type 0
+AnswersBy view (Ok t) r = r ≡ Ok (view t)
+AnswersBy view (Err (Trap c)) r = r ≡ Err c
+AnswersBy view (Err Memory) r = Unit {0}
+
+-- the whole numbers of values
+abbrev pub numbers_of : Result (List Value) Cause → Result (List ℤ) Cause
+numbers_of (Ok vs) = Ok (wholes vs)
+numbers_of (Err c) = Err c
+
+-- the place of an occurrence, None outside the bounds
+abbrev pub located : Site → Cells → Designator → Told Cause (Option ℕ)
+located site cells p = values_of p.subscripts site cells >>= (λ subscripts. pure (place_of site p.name (wholes subscripts)))
 
 -- values that stand before others
-abbrev pub with_front : List Value → Result (List Value) Cause → Result (List Value) Cause
+abbrev pub with_front : {A : Type 0} → List A → Result (List A) Cause → Result (List A) Cause
 with_front vs (Ok ws) = Ok (vs ++ ws)
 with_front vs (Err c) = Err c

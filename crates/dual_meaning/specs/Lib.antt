@@ -8,6 +8,10 @@ pub mod Stops
 pub mod Adjoints
 pub mod Programs
 pub mod Laws
+pub mod Scenes
 pub mod Codes
 pub mod Answers
 pub mod Resolves
+pub mod Sequential
+pub mod Steps
+pub mod Running

@@ -16,6 +16,7 @@ use Rattle.dual_meaning.specs.declared.value.Value.TheVariants.{Index, Ring}
 use Rattle.dual_meaning.specs.declared.value.Cause.{Cause}
 use Rattle.dual_meaning.specs.declared.value.Cause.TheVariants.{ZeroDivisor, Bounds, Unset}
 use Rattle.dual_meaning.specs.declared.value.TrapAt.{TrapAt}
+use Rattle.dual_meaning.specs.declared.value.Turns.{Turns}
 use Rattle.dual_meaning.specs.Values.{dual_add, dual_sub, as_dual, converted, whole, wholes}
 use Rattle.dual_meaning.specs.Logs.{Log, silence, single, sets, both, pushes, ends, instance, turn, iteration, condition, taken, Told, pure, lift, after, ◌>>=◌, inside, at_line}
 use Rattle.dual_meaning.specs.Sites.{Cells, Site, in_turn, in_iteration, place_of, kind_of, word_of}
@@ -81,13 +82,6 @@ assigned site cells atomic p e None = plain site cells p e
 assigned site cells atomic p e (Some rest) = increment site cells p rest (increment_kind atomic (site.pluses p.name))
 
 -- ---- loops
-
--- the bounds and the step of a loop, and how often its body runs
-pub record Turns : Type 0 where
-  pub first : ℤ
-  pub last : ℤ
-  pub step : ℤ
-  pub count : ℕ
 
 abbrev pub turns_by : ℤ → ℤ → ℤ → Told Cause Turns
 turns_by first last step =

@@ -116,11 +116,11 @@ impl Value {
     }
 
     /// The number of an index value, 0 of a ring value.
-    pub fn whole(&self) -> i64
+    pub fn whole(&self) -> i32
         ensures { result ≡ whole self.now }
     {
         match self {
-            Value::Index(index) => i64::from(index.value()),
+            Value::Index(index) => index.value(),
             Value::Ring(_) => 0,
         }
     }

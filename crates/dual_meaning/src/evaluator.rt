@@ -1,17 +1,19 @@
-ghost use Rattle.std.specs.Prelude.{◌≡◌, true, map, IfOk, Err, length, ◌<◌, slice_get};
-ghost use Rattle.dual_meaning.specs.Values.{wholes, whole};
-ghost use Rattle.dual_meaning.specs.Expressions.{value_of, values_of, content, read, holds as holds_lem};
-ghost use Rattle.dual_meaning.specs.Codes.{code_back, codes_back, test_back, slot_name, is_within, are_within, is_test_within};
-ghost use Rattle.dual_meaning.specs.Answers.{Answers, quiet_site};
+ghost use Rattle.std.specs.Prelude.{◌≡◌, true, IfOk, Err, length, ◌<◌};
+ghost use Rattle.dual_meaning.specs.Expressions.{value_of, values_of, content, read_place, holds as holds_lem};
+ghost use Rattle.dual_meaning.specs.Scenes.{scene_site};
+ghost use Rattle.dual_meaning.specs.Codes.{code_back, codes_back, spot_back, test_back, slot_name, is_within, are_within, is_spot_within, is_test_within};
+ghost use Rattle.dual_meaning.specs.Answers.{Answers, AnswersBy, numbers_of, located};
+ghost use Rattle.dual_meaning.specs.declared.value.Cause.TheVariants.{Bounds as bounds, Unset as unset_name};
 ghost use Rattle.dual_meaning.specs.declared.evaluator.EvalStop.TheVariants.{Trap as trap, Memory as memory};
 
 use crate::arithmetic::{binary, called, literal, related};
-use crate::resolved::{Code, Test};
+use crate::resolved::{Code, Spot, Test};
+use crate::scene::Scene;
 use crate::value::{Cause, Value};
 use fl_ast::{Memory, Name};
 use fl_base::Items;
+use smallvec::SmallVec;
 use std::alloc::{AllocError, AllocFailed, Global};
-use store_core::Layout;
 
 /// Why an evaluation gave no value.
 #[derive(Debug, Drop)]
@@ -52,103 +54,154 @@ impl<T: Drop> From<AllocFailed<T>> for EvalStop {
     }
 }
 
-/// The value of an expression outside of parallel loops, over the cells of a layout.
+/// The value of an expression outside of parallel loops, over the cells of a scene.
 #[cycle(evaluate)]
 pub fn evaluate(
     alloc: Global,
-    layout: &Layout,
+    scene: &Scene,
     cells: &[Option<Value>],
     code: &Code,
 ) -> Result<Value, EvalStop>
-    requires { is_within (length layout.now) code.now ≡ true }
-    ensures { Answers result (value_of (code_back layout.now code.now) (quiet_site layout.now) cells.now).out }
+    requires { is_within (length scene.now.0) code.now ≡ true }
+    ensures { Answers result (value_of (code_back scene.now.0 code.now) (scene_site scene.now) cells.now).out }
 {
     match code {
         Code::Lit { word, kind } => Ok(literal(*word, *kind)?),
         Code::Get(spot) => {
-            let subscripts = evaluate_all(alloc, layout, cells, spot.subscripts.as_slice())?;
-            read(alloc, layout, cells, spot.slot, subscripts.as_slice())
+            let place = locate(alloc, scene, cells, spot)?;
+            read(alloc, scene, cells, spot.slot, place)
         }
         Code::Neg(inner) => {
-            let value = evaluate(alloc, layout, cells, inner.get())?;
+            let value = evaluate(alloc, scene, cells, inner.get())?;
             Ok(value.neg()?)
         }
         Code::Bin { op, left, right } => {
-            let first = evaluate(alloc, layout, cells, left.get())?;
-            let second = evaluate(alloc, layout, cells, right.get())?;
+            let first = evaluate(alloc, scene, cells, left.get())?;
+            let second = evaluate(alloc, scene, cells, right.get())?;
             Ok(binary(*op, first, second)?)
         }
         Code::Pow { base, exponent } => {
-            let value = evaluate(alloc, layout, cells, base.get())?;
+            let value = evaluate(alloc, scene, cells, base.get())?;
             Ok(value.pow(*exponent)?)
         }
-        Code::Call { fun, args } => {
-            let values = evaluate_all(alloc, layout, cells, args.as_slice())?;
-            Ok(called(*fun, values.as_slice())?)
-        }
+        Code::Call { fun, args } => match args.as_slice() {
+            [only] => {
+                let value = evaluate(alloc, scene, cells, only)?;
+                Ok(called(*fun, &[value])?)
+            }
+            [left, right] => {
+                let first = evaluate(alloc, scene, cells, left)?;
+                let second = evaluate(alloc, scene, cells, right)?;
+                Ok(called(*fun, &[first, second])?)
+            }
+            others => {
+                let values = evaluate_all(alloc, scene, cells, others)?;
+                Ok(called(*fun, values.as_slice())?)
+            }
+        },
     }
 }
 
 #[cycle(evaluate)]
 fn evaluate_all(
     alloc: Global,
-    layout: &Layout,
+    scene: &Scene,
     cells: &[Option<Value>],
     codes: &[Code],
 ) -> Result<Items<Value>, EvalStop>
-    requires { are_within (length layout.now) codes.now ≡ true }
-    ensures { Answers result (values_of (codes_back layout.now codes.now) (quiet_site layout.now) cells.now).out }
+    requires { are_within (length scene.now.0) codes.now ≡ true }
+    ensures { Answers result (values_of (codes_back scene.now.0 codes.now) (scene_site scene.now) cells.now).out }
 {
     let mut all = Items::new(alloc);
     for code in codes {
-        let value = evaluate(alloc, layout, cells, code)?;
+        let value = evaluate(alloc, scene, cells, code)?;
         all.push(value)?;
     }
     Ok(all)
 }
 
+/// The numbers of subscripts. Up to three take no memory.
+#[cycle(evaluate)]
+fn evaluate_subscripts(
+    alloc: Global,
+    scene: &Scene,
+    cells: &[Option<Value>],
+    codes: &[Code],
+) -> Result<SmallVec<i64, 3>, EvalStop>
+    requires { are_within (length scene.now.0) codes.now ≡ true }
+    ensures { AnswersBy (λ numbers. numbers.items) result
+        (numbers_of (values_of (codes_back scene.now.0 codes.now) (scene_site scene.now) cells.now).out) }
+{
+    let mut numbers = SmallVec::new(alloc);
+    for code in codes {
+        let value = evaluate(alloc, scene, cells, code)?;
+        numbers.push(i64::from(value.whole()))?;
+    }
+    Ok(numbers)
+}
+
+/// The place of an occurrence of a name, `None` outside its bounds.
+#[cycle(evaluate)]
+pub(crate) fn locate(
+    alloc: Global,
+    scene: &Scene,
+    cells: &[Option<Value>],
+    spot: &Spot,
+) -> Result<Option<u32>, EvalStop>
+    requires { is_spot_within (length scene.now.0) spot.now ≡ true }
+    ensures { Answers result (located (scene_site scene.now) cells.now (spot_back scene.now.0 spot.now)).out }
+{
+    let numbers = evaluate_subscripts(alloc, scene, cells, spot.subscripts.as_slice())?;
+    Ok(scene.layout().place_in(spot.slot, numbers.as_slice()))
+}
+
+/// The value at a place of the name of a slot.
 fn read(
     alloc: Global,
-    layout: &Layout,
+    scene: &Scene,
     cells: &[Option<Value>],
     slot: usize,
-    subscripts: &[Value],
+    place: Option<u32>,
 ) -> Result<Value, EvalStop>
-    requires { slot < length layout.now }
-    ensures { Answers result (read (quiet_site layout.now) cells.now (slot_name layout.now slot) subscripts.now).out }
+    requires { slot < length scene.now.0 }
+    ensures { Answers result (read_place (scene_site scene.now) cells.now (slot_name scene.now.0 slot) place).out }
 {
-    let numbers = whole_numbers(alloc, subscripts)?;
-    match layout.place_in(slot, numbers.as_slice()) {
-        None => Err(EvalStop::Trap(Cause::Bounds {
-            name: name_of(alloc, layout, slot)?,
-        })),
+    match place {
+        None => Err(out_of_bounds(alloc, scene, slot)?),
         Some(place) => match cell(cells, place) {
             Some(value) => Ok(value),
-            None => Err(EvalStop::Trap(Cause::Unset {
-                name: name_of(alloc, layout, slot)?,
-            })),
+            None => Err(unset(alloc, scene, slot)?),
         },
     }
 }
 
-fn name_of(alloc: Global, layout: &Layout, slot: usize) -> Result<Name, Memory>
-    requires { slot < length layout.now }
-    ensures { IfOk result (λ name. name ≡ slot_name layout.now slot) }
+/// A subscript of the name of a slot is out of bounds.
+pub(crate) fn out_of_bounds(alloc: Global, scene: &Scene, slot: usize) -> Result<EvalStop, Memory>
+    requires { slot < length scene.now.0 }
+    ensures { IfOk result (λ stop. stop ≡ trap (bounds (slot_name scene.now.0 slot))) }
 {
-    layout.shapes()[slot].name.clone(alloc)
+    let name = name_of(alloc, scene, slot)?;
+    Ok(EvalStop::Trap(Cause::Bounds { name }))
 }
 
-fn whole_numbers(alloc: Global, values: &[Value]) -> Result<Vec<i64>, Memory>
-    ensures { IfOk result (λ numbers. numbers.items ≡ wholes values.now) }
+/// The name of a slot was read before it was set.
+pub(crate) fn unset(alloc: Global, scene: &Scene, slot: usize) -> Result<EvalStop, Memory>
+    requires { slot < length scene.now.0 }
+    ensures { IfOk result (λ stop. stop ≡ trap (unset_name (slot_name scene.now.0 slot))) }
 {
-    let mut all = Vec::new(alloc);
-    for value in values {
-        all.push(value.whole())?;
-    }
-    Ok(all)
+    let name = name_of(alloc, scene, slot)?;
+    Ok(EvalStop::Trap(Cause::Unset { name }))
 }
 
-fn cell(cells: &[Option<Value>], place: u32) -> Option<Value>
+fn name_of(alloc: Global, scene: &Scene, slot: usize) -> Result<Name, Memory>
+    requires { slot < length scene.now.0 }
+    ensures { IfOk result (λ name. name ≡ slot_name scene.now.0 slot) }
+{
+    scene.layout().shapes()[slot].name.clone(alloc)
+}
+
+/// The content of a place.
+pub(crate) fn cell(cells: &[Option<Value>], place: u32) -> Option<Value>
     ensures { result ≡ content cells.now place }
 {
     if (place as usize) < cells.len() {
@@ -161,31 +214,31 @@ fn cell(cells: &[Option<Value>], place: u32) -> Option<Value>
 /// Whether a condition holds; both sides of `.and.` and `.or.` are evaluated.
 pub fn holds(
     alloc: Global,
-    layout: &Layout,
+    scene: &Scene,
     cells: &[Option<Value>],
     test: &Test,
 ) -> Result<bool, EvalStop>
-    requires { is_test_within (length layout.now) test.now ≡ true }
-    ensures { Answers result (holds_lem (test_back layout.now test.now) (quiet_site layout.now) cells.now).out }
+    requires { is_test_within (length scene.now.0) test.now ≡ true }
+    ensures { Answers result (holds_lem (test_back scene.now.0 test.now) (scene_site scene.now) cells.now).out }
 {
     match test {
         Test::Rel { op, left, right } => {
-            let first = evaluate(alloc, layout, cells, left)?;
-            let second = evaluate(alloc, layout, cells, right)?;
+            let first = evaluate(alloc, scene, cells, left)?;
+            let second = evaluate(alloc, scene, cells, right)?;
             Ok(related(*op, first, second))
         }
         Test::Not(inner) => {
-            let inner = holds(alloc, layout, cells, inner.get())?;
+            let inner = holds(alloc, scene, cells, inner.get())?;
             Ok(!inner)
         }
         Test::And(left, right) => {
-            let first = holds(alloc, layout, cells, left.get())?;
-            let second = holds(alloc, layout, cells, right.get())?;
+            let first = holds(alloc, scene, cells, left.get())?;
+            let second = holds(alloc, scene, cells, right.get())?;
             Ok(first && second)
         }
         Test::Or(left, right) => {
-            let first = holds(alloc, layout, cells, left.get())?;
-            let second = holds(alloc, layout, cells, right.get())?;
+            let first = holds(alloc, scene, cells, left.get())?;
+            let second = holds(alloc, scene, cells, right.get())?;
             Ok(first || second)
         }
     }

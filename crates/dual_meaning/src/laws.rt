@@ -1,4 +1,4 @@
-ghost use Rattle.dual_meaning.specs.Laws.{TangentsAreUnseen, TangentsAreLinear, ConflictIsReported, ValuesGoByKeys, VariablesFit};
+ghost use Rattle.dual_meaning.specs.Laws.{TangentsAreUnseen, TangentsAreLinear, ConflictIsReported, ValuesGoByKeys, VariablesFit, SequentialRunsGoByKeys};
 
 /// Values, events, conflicts and traps of a program don't depend on the tangents that it begins with.
 pub fn tangents_are_unseen()
@@ -23,4 +23,9 @@ pub fn values_go_by_keys()
 /// The variable of a loop never leaves the range of the index kind.
 pub fn variables_fit()
     ensures { VariablesFit }
+{}
+
+/// Without parallel loops, what a run does depends neither on the loops around it nor on what it pushes.
+pub fn sequential_runs_go_by_keys()
+    ensures { SequentialRunsGoByKeys }
 {}

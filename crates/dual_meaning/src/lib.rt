@@ -6,17 +6,21 @@ mod evaluator;
 mod laws;
 mod resolve;
 mod resolved;
+mod runner;
+mod scene;
 mod value;
 
 pub use arithmetic::{binary, called, literal, related};
 pub use evaluator::{EvalStop, evaluate, holds};
 pub use laws::{
-    conflict_is_reported, tangents_are_linear, tangents_are_unseen, values_go_by_keys,
-    variables_fit,
+    conflict_is_reported, sequential_runs_go_by_keys, tangents_are_linear, tangents_are_unseen,
+    values_go_by_keys, variables_fit,
 };
 pub use resolve::{ResolveError, resolve_expression, resolve_place, resolve_test};
-pub use resolved::{Code, Spot, Test};
-pub use value::{Cause, Dual, TrapAt, Value};
+pub use resolved::{Code, Spot, Step, StepArm, Test};
+pub use runner::RunStop;
+pub use scene::Scene;
+pub use value::{Cause, Dual, TrapAt, Turns, Value};
 
 #[cfg(test)]
 mod tests;

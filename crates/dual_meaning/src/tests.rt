@@ -1,5 +1,6 @@
 use crate::{
-    Cause, Dual, EvalStop, ResolveError, Value, evaluate, holds, resolve_expression, resolve_test,
+    Cause, Dual, EvalStop, ResolveError, Scene, Value, evaluate, holds, resolve_expression,
+    resolve_test,
 };
 use fl_ast::{BinOp, Cond, Decl, Expr, Intent, Kind, Memory, Name, Place, Program, RelOp, Stmt};
 use fl_base::{Boxed, Items};
@@ -74,12 +75,13 @@ fn unit(alloc: Global) -> Result<Program, Memory> {
     })
 }
 
-fn layout(alloc: Global) -> Result<Layout, Fail> {
+fn scene(alloc: Global) -> Result<Scene, Fail> {
     let args = Args {
         entries: Items::new(alloc),
     };
     let typed = check(alloc, unit(alloc)?)?;
-    Ok(Layout::of(alloc, &typed, &args)?)
+    let layout = Layout::of(alloc, &typed, &args)?;
+    Ok(Scene::of(alloc, &layout, typed.program().decls.as_slice())?)
 }
 
 fn five() -> Option<Value> {
@@ -91,20 +93,20 @@ fn five() -> Option<Value> {
 
 /// What the sample gives where x has this content.
 fn found(alloc: Global, x: Option<Value>) -> Result<Result<Value, EvalStop>, Fail> {
-    let layout = layout(alloc)?;
-    let code = resolve_expression(alloc, &layout, &sample(alloc)?)?;
-    Ok(evaluate(alloc, &layout, &[x, None], &code))
+    let scene = scene(alloc)?;
+    let code = resolve_expression(alloc, scene.layout(), &sample(alloc)?)?;
+    Ok(evaluate(alloc, &scene, &[x, None], &code))
 }
 
 fn is_small(alloc: Global) -> Result<bool, Fail> {
-    let layout = layout(alloc)?;
+    let scene = scene(alloc)?;
     let less = Cond::Rel {
         op: RelOp::Lt,
         left: get(alloc, b"x")?,
         right: three(),
     };
-    let test = resolve_test(alloc, &layout, &less)?;
-    Ok(holds(alloc, &layout, &[five(), None], &test)?)
+    let test = resolve_test(alloc, scene.layout(), &less)?;
+    Ok(holds(alloc, &scene, &[five(), None], &test)?)
 }
 
 #[test]
@@ -134,8 +136,8 @@ fn conditions(rt: HostRuntime) -> Result<(), Fail> {
 
 #[test]
 fn unplaced(rt: HostRuntime) -> Result<(), Fail> {
-    let layout = layout(rt.alloc())?;
-    let code = resolve_expression(rt.alloc(), &layout, &get(rt.alloc(), b"z")?);
+    let scene = scene(rt.alloc())?;
+    let code = resolve_expression(rt.alloc(), scene.layout(), &get(rt.alloc(), b"z")?);
     assert!(rt; matches!(&code, Err(ResolveError::Unplaced)));
     Ok(())
 }

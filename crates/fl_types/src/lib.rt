@@ -4,10 +4,12 @@
 mod access;
 mod built;
 mod choice;
+mod increment;
 mod sharing;
 mod typed;
 
 pub use access::{Access, AccessKind, PathStep};
 pub use choice::{Choice, Choices, Chosen, NameSet};
+pub use increment::{IncrementForm, increment_form};
 pub use sharing::Sharing;
 pub use typed::{TypeError, Typed, check};

@@ -11,7 +11,7 @@ use Rattle.store_core.specs.declared.layout.Shape.{Shape}
 use Rattle.store_core.specs.declared.layout.LayoutError.{LayoutError}
 use Rattle.store_core.specs.declared.layout.LayoutError.TheVariants.{TooManyPlaces, Memory}
 use Rattle.store_core.specs.Bounds.{IsLow}
-use Rattle.store_core.specs.Keys.{keys_of, keys_of_shape, size_of, slot_of, IsApart, HasEachOnce, IsLaidOut, laid, laid_all, Lays}
+use Rattle.store_core.specs.Keys.{keys_of, keys_of_shape, size_of, slot_of, IsApart, HasEachOnce, IsLaidOut, laid, laid_all, LaysWithin}
 use Rattle.store_core.proofs.Slots.{length_shape, turned, slot_missing, slot_found, same_name}
 use Rattle.store_core.proofs.Offsets.{size_more}
 
@@ -79,10 +79,10 @@ one_low s h zero d lt = h
 one_low s h (suc k) d lt = absurd (omega arith)
 
 -- a new shape, with the number of places after it
-pub laid_more : (es : List Shape) (s : Shape) (firsts : List ℕ) (count more next : ℕ) → IsLaidOut es firsts → None ≡ slot_of es s.name → All IsLow s.axes
-    → count ≡ length (keys_of es) → more ≡ min (size_of s.axes) (2 ^ 40) → more ≤ 2 ^ 20 - count → next ≡ count + more
+pub laid_more : (es : List Shape) (s : Shape) (firsts : List ℕ) (count more next limit : ℕ) → limit ≤ 2 ^ 21 → IsLaidOut es firsts → None ≡ slot_of es s.name → All IsLow s.axes
+    → count ≡ length (keys_of es) → more ≡ min (size_of s.axes) (2 ^ 40) → more ≤ limit - count → next ≡ count + more
     → IsLaidOut (es ++ s ∷ []) (firsts ++ next ∷ [])
-laid_more es s firsts count more next h new low counted size fits is =
+laid_more es s firsts count more next limit cap h new low counted size fits is =
     let m : more ≡ size_of s.axes = omega arith in
     let k = keys_more es s in
     let n : next ≡ length (keys_of (es ++ s ∷ [])) = omega arith in
@@ -95,16 +95,16 @@ laid_more es s firsts count more next h new low counted size fits is =
     }
 
 -- the places of the new shape are too many
-pub laid_over : (es : List Shape) (s : Shape) (count more : ℕ) → None ≡ slot_of es s.name → count ≡ length (keys_of es) → count ≤ 2 ^ 20 → more ≡ min (size_of s.axes) (2 ^ 40) → 2 ^ 20 - count < more
-    → 2 ^ 20 < length (keys_of (laid es s))
-laid_over es s count more new counted small size past =
+pub laid_over : (es : List Shape) (s : Shape) (count more limit : ℕ) → limit ≤ 2 ^ 21 → None ≡ slot_of es s.name → count ≡ length (keys_of es) → count ≤ limit → more ≡ min (size_of s.axes) (2 ^ 40) → limit - count < more
+    → limit < length (keys_of (laid es s))
+laid_over es s count more limit cap new counted small size past =
     let k = keys_more es s in
     let e : length (keys_of (laid es s)) ≡ length (keys_of es) + size_of s.axes = ap (λ xs. length (keys_of xs)) (laid_new es s new) ∙ k in
     omega arith
 
-pub laid_fits : (es : List Shape) (s : Shape) (count more : ℕ) → None ≡ slot_of es s.name → count ≡ length (keys_of es) → count ≤ 2 ^ 20 → more ≡ min (size_of s.axes) (2 ^ 40) → more ≤ 2 ^ 20 - count
-    → length (keys_of (laid es s)) ≤ 2 ^ 20
-laid_fits es s count more new counted small size fits =
+pub laid_fits : (es : List Shape) (s : Shape) (count more limit : ℕ) → limit ≤ 2 ^ 21 → None ≡ slot_of es s.name → count ≡ length (keys_of es) → count ≤ limit → more ≡ min (size_of s.axes) (2 ^ 40) → more ≤ limit - count
+    → length (keys_of (laid es s)) ≤ limit
+laid_fits es s count more limit cap new counted small size fits =
     let k = keys_more es s in
     let e : length (keys_of (laid es s)) ≡ length (keys_of es) + size_of s.axes = ap (λ xs. length (keys_of xs)) (laid_new es s new) ∙ k in
     omega arith
@@ -147,6 +147,6 @@ laid_all-append es [] ts = refl
 laid_all-append es (s ∷ ss) ts = laid_all-append (laid es s) ss ts
 
 -- too many places stay too many
-pub too_many : (e : LayoutError) (es ss : List Shape) → Lays (Err e) es → Lays (Err e) (laid_all es ss)
-too_many TooManyPlaces es ss h = laid_grows (2 ^ 20) es ss h
-too_many Memory es ss h = tt
+pub too_many : (n : ℕ) (e : LayoutError) (es ss : List Shape) → LaysWithin n (Err e) es → LaysWithin n (Err e) (laid_all es ss)
+too_many n TooManyPlaces es ss h = laid_grows n es ss h
+too_many n Memory es ss h = tt

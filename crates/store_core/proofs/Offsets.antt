@@ -67,11 +67,11 @@ below_extent n (negsuc m) k e = absurd (let f : Some k ≡ None = e in cc)
 
 -- the bounds of one step
 pub record Fitting (axes : List Axis) (i offset : ℕ) (a : Axis) : Type 0 where
-  pub extent : a.extent ≤ 2 ^ 20
-  pub times : a.extent * offset + a.extent ≤ 2 ^ 20
+  pub extent : a.extent ≤ 2 ^ 21
+  pub times : a.extent * offset + a.extent ≤ 2 ^ 21
   pub inside : a.extent * offset + a.extent ≤ size_of (drop i axes)
 
-pub fitting : (axes : List Axis) (ss : List ℤ) (i j offset : ℕ) (d : Axis) → suc j ≡ i → Reached axes ss i offset → 0 < size_of axes → size_of axes ≤ 2 ^ 20 → Fitting axes j offset (get_or axes j d)
+pub fitting : (axes : List Axis) (ss : List ℤ) (i j offset : ℕ) (d : Axis) → suc j ≡ i → Reached axes ss i offset → 0 < size_of axes → size_of axes ≤ 2 ^ 21 → Fitting axes j offset (get_or axes j d)
 fitting axes ss i j offset d e h some room =
     let lt : j < length axes = omega (arith, h.inside) in
     let at_i : size_of (drop (suc j) axes) ≡ size_of (drop i axes) = ap (λ k. size_of (drop k axes)) e in
@@ -85,7 +85,7 @@ pub step_below : (a : Axis) (s : ℤ) (k : ℕ) → Some k ≡ step_of a s → k
 step_below a s k e = below_extent a.extent (s -ℤ a.lower) k e
 
 -- the next subscript to the front is within its bounds
-pub reached_more : (axes : List Axis) (ss : List ℤ) (i j offset k : ℕ) (d : Axis) → suc j ≡ i → Reached axes ss i offset → length axes ≡ length ss → 0 < size_of axes → size_of axes ≤ 2 ^ 20
+pub reached_more : (axes : List Axis) (ss : List ℤ) (i j offset k : ℕ) (d : Axis) → suc j ≡ i → Reached axes ss i offset → length axes ≡ length ss → 0 < size_of axes → size_of axes ≤ 2 ^ 21
     → Some k ≡ step_of (get_or axes j d) (get_or ss j (pos 0)) → Reached axes ss j (k + (get_or axes j d).extent * offset)
 reached_more axes ss i j offset k d e h same some room is =
     let lt : j < length axes = omega (arith, h.inside) in

@@ -10,11 +10,11 @@ use Rattle.std.proofs.lemmas.Nat.{mul-le}
 pub record Read (axes : List Axis) (i : ℕ) (made : List ℤ) (rest at : ℕ) : Type 0 where
   pub done : made ++ subscripts_at (drop i axes) rest ≡ subscripts_at axes at
   pub below : rest < size_of (drop i axes)
-  pub small : size_of (drop i axes) ≤ 2 ^ 20
+  pub small : size_of (drop i axes) ≤ 2 ^ 21
 
 pub record Next (axes : List Axis) (i : ℕ) (made : List ℤ) (rest at : ℕ) (a : Axis) : Type 0 where
   pub some : 0 < a.extent
-  pub small : a.extent ≤ 2 ^ 20
+  pub small : a.extent ≤ 2 ^ 21
   pub then : Read axes (i + 1) (made ++ (a.lower +ℤ pos (rest % a.extent)) ∷ []) (rest / a.extent) at
 
 at_most : (n m : ℕ) → 0 < m → n ≤ n * m

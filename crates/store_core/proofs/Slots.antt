@@ -200,7 +200,7 @@ got (y ∷ xs) (suc i) x h e = got xs i x (omega arith) e
 -- what a layout keeps at a slot
 pub record Kept (es : List Shape) (first next slot : ℕ) (e : Shape) : Type 0 where
   pub long : next ≡ first + size_of e.axes
-  pub small : next ≤ 2 ^ 20
+  pub small : next ≤ 2 ^ 21
   pub place : (ss : List ℤ) → place_in_slot es slot ss ≡ option_map (λ k. first + k) (offset_of e.axes ss)
 
 pub kept : (es : List Shape) (firsts : List ℕ) (slot : ℕ) (e : Shape) → IsLaidOut es firsts → slot < length es → e ≡ get_or es slot e

@@ -3,7 +3,7 @@ ghost use Rattle.std.specs.List.{filter_map};
 ghost use Rattle.std.specs.Option.{option_copied};
 ghost use Rattle.store_core.specs.Values.{value_in};
 ghost use Rattle.store_core.specs.Bounds.{shape_of};
-ghost use Rattle.store_core.specs.Keys.{keys_of, laid_all, Lays};
+ghost use Rattle.store_core.specs.Keys.{keys_of, laid_all, LaysWithin};
 ghost use Rattle.store_core.specs.Places.{declaration_of, local_of, laid_some, shapes_of};
 
 use crate::bound::declared_shape;
@@ -44,14 +44,14 @@ impl Layout {
     /// The layout of a program: its arguments in order, and then in the order of their declarations the local scalars
     /// that are neither private nor loop variables. The scalars in bounds have the values that `args` gives them.
     pub fn of(alloc: Global, typed: &Typed, args: &Args) -> Result<Layout, LayoutError>
-        ensures { Lays result (shapes_of typed.now args.now.entries) }
+        ensures { LaysWithin (2 ^ 20) result (shapes_of typed.now args.now.entries) }
     {
         lay(alloc, typed.program(), args)
     }
 }
 
 fn lay(alloc: Global, program: &Program, args: &Args) -> Result<Layout, LayoutError>
-    ensures { Lays result (shapes_of program.now args.now.entries) }
+    ensures { LaysWithin (2 ^ 20) result (shapes_of program.now args.now.entries) }
 {
     let values = args.entries.as_slice();
     let layout = Layout::empty(alloc)?;
@@ -66,7 +66,7 @@ fn lay_some(
     decl: Option<&Decl>,
 ) -> Result<Layout, LayoutError>
     requires { length (keys_of layout) ≤ 2 ^ 20 }
-    ensures { Lays result (laid_some values.now layout (option_copied decl.entry)) }
+    ensures { LaysWithin (2 ^ 20) result (laid_some values.now layout (option_copied decl.entry)) }
 {
     match decl {
         Some(decl) => layout.with(declared_shape(alloc, values, decl)?),
@@ -81,7 +81,7 @@ fn lay_args(
     values: &[Entry],
 ) -> Result<Layout, LayoutError>
     requires { length (keys_of layout) ≤ 2 ^ 20 }
-    ensures { Lays result (laid_all layout (map (shape_of (value_in values.now))
+    ensures { LaysWithin (2 ^ 20) result (laid_all layout (map (shape_of (value_in values.now))
         (filter_map (declaration_of program.now.decls) program.now.args))) }
 {
     let mut layout = layout;
@@ -99,7 +99,7 @@ fn lay_locals(
     values: &[Entry],
 ) -> Result<Layout, LayoutError>
     requires { length (keys_of layout) ≤ 2 ^ 20 }
-    ensures { Lays result (laid_all layout (map (shape_of (value_in values.now))
+    ensures { LaysWithin (2 ^ 20) result (laid_all layout (map (shape_of (value_in values.now))
         (filter_map (local_of program.now) program.now.decls))) }
 {
     let mut layout = layout;

@@ -11,7 +11,7 @@ use std::alloc::Global;
 /// Writes words from a cell on, and zeros where there are fewer than `count`.
 fn fill(store: &mut Store, at: u32, count: u32, words: &[u64])
     requires within { at + count ≤ length store.old }
-    requires few { length store.old ≤ 2 ^ 21 }
+    requires few { length store.old ≤ 2 ^ 22 }
     ensures { store.new ≡ written store.old at (fitted count words.now) }
 {
     for k in 0..count {
@@ -33,7 +33,7 @@ impl Layout {
     /// Writes the words of all places from a cell on.
     fn fill(&self, store: &mut Store, base: u32, entries: &[Entry])
         requires within { base + length (keys_of self.now) ≤ length store.old }
-        requires few { length store.old ≤ 2 ^ 21 }
+        requires few { length store.old ≤ 2 ^ 22 }
         ensures { store.new ≡ written store.old base (place_words self.now entries.now) }
     {
         let shapes = self.shapes();

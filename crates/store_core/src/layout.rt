@@ -1,10 +1,10 @@
 ghost use Rattle.std.specs.Prelude.{◌≡◌, ◌+◌, ◌*◌, ◌<◌, ◌≤◌, ◌^◌, length, slice_get, List, [], All, IfSome, IfOk, Some, None, option_map, take};
-ghost use Rattle.store_core.specs.Keys.{step_of, size_of, offset_of, keys_of, slot_of, place_in_slot, place_of, laid, Lays};
+ghost use Rattle.store_core.specs.Keys.{step_of, size_of, offset_of, keys_of, slot_of, place_in_slot, place_of, laid, scalar, HasEachOnce, with_scalars, LaysWithin};
 ghost use Rattle.store_core.specs.Bounds.{IsLow};
 ghost use Rattle.store_core.specs.declared.layout.LayoutError.TheVariants.{Memory as memory};
 
 use crate::bound::{Axis, size};
-use fl_ast::{Memory, Name};
+use fl_ast::{Decl, Memory, Name};
 use fl_base::Items;
 use std::alloc::{AllocError, AllocFailed, Global};
 use std::marker::Model;
@@ -19,7 +19,7 @@ pub struct Shape {
 impl Axis {
     /// How far above the lower bound a subscript is, or `None` outside the bounds.
     fn step(&self, subscript: i64) -> Option<u32>
-        requires { self.now.extent ≤ 2 ^ 20 }
+        requires { self.now.extent ≤ 2 ^ 21 }
         ensures value { result ≡ step_of self.now subscript }
         ensures below { IfSome result (λ step. step < self.now.extent) }
     {
@@ -35,7 +35,7 @@ impl Axis {
 /// The column-major position of subscripts.
 fn offset(axes: &[Axis], subscripts: &[i64]) -> Option<u32>
     requires some { 0 < size_of axes.now }
-    requires room { size_of axes.now ≤ 2 ^ 20 }
+    requires room { size_of axes.now ≤ 2 ^ 21 }
     ensures value { result ≡ offset_of axes.now subscripts.now }
     ensures below { IfSome result (λ k. k < size_of axes.now) }
 {
@@ -55,7 +55,11 @@ fn offset(axes: &[Axis], subscripts: &[i64]) -> Option<u32>
     Some(offset)
 }
 
+/// The greatest number of places of a program.
 const PLACES: u32 = 0x10_0000;
+
+/// The same with all further scalars.
+const PLACES_AND_SCALARS: u32 = 0x20_0000;
 
 /// Why there is no layout.
 #[derive(Debug, Drop)]
@@ -112,7 +116,7 @@ impl Model for Layout {
 impl Layout {
     /// A layout without places.
     pub(crate) fn empty(alloc: Global) -> Result<Layout, LayoutError>
-        ensures { Lays result [] }
+        ensures { LaysWithin (2 ^ 20) result [] }
     {
         let mut firsts = Vec::new(alloc);
         firsts.push(0)?;
@@ -124,26 +128,46 @@ impl Layout {
 
     /// The layout with one shape more, unless a shape has its name.
     pub(crate) fn with(self, shape: Shape) -> Result<Layout, LayoutError>
-        requires { All IsLow shape.axes }
-        ensures { Lays result (laid self shape) }
+        requires few { length (keys_of self) ≤ 2 ^ 20 }
+        requires low { All IsLow shape.axes }
+        ensures { LaysWithin (2 ^ 20) result (laid self shape) }
+    {
+        self.within(PLACES, shape)
+    }
+
+    /// The layout with a scalar more, unless it has a place.
+    fn with_scalar(self, alloc: Global, name: &Name) -> Result<Layout, LayoutError>
+        ensures { LaysWithin (2 ^ 21) result (laid self (scalar name.now)) }
+    {
+        let shape = scalar_shape(alloc, name)?;
+        self.within(PLACES_AND_SCALARS, shape)
+    }
+
+    /// The layout with one shape more, unless a shape has its name, of `limit` places at most.
+    fn within(self, limit: u32, shape: Shape) -> Result<Layout, LayoutError>
+        requires few { length (keys_of self) ≤ limit }
+        requires limit { limit ≤ 2 ^ 21 }
+        requires low { All IsLow shape.axes }
+        ensures { LaysWithin limit result (laid self shape) }
     {
         let count = self.count();
         match self.slot(&shape.name) {
             Some(_) => Ok(self),
-            None => self.with_new(count, shape),
+            None => self.with_new(count, limit, shape),
         }
     }
 
     /// The layout of `count` places with one shape more, whose name isn't there yet.
-    fn with_new(self, count: u32, shape: Shape) -> Result<Layout, LayoutError>
+    fn with_new(self, count: u32, limit: u32, shape: Shape) -> Result<Layout, LayoutError>
         requires counted { count ≡ length (keys_of self) }
-        requires small { count ≤ 2 ^ 20 }
+        requires small { count ≤ limit }
+        requires limit { limit ≤ 2 ^ 21 }
         requires new { None ≡ slot_of self shape.name }
         requires low { All IsLow shape.axes }
-        ensures { Lays result (laid self shape) }
+        ensures { LaysWithin limit result (laid self shape) }
     {
         let more = size(shape.axes.as_slice());
-        if more > u64::from(PLACES - count) {
+        if more > u64::from(limit - count) {
             return Err(LayoutError::TooManyPlaces);
         }
         let Layout {
@@ -156,10 +180,31 @@ impl Layout {
         Ok(Layout { shapes, firsts })
     }
 
+    fn copy(&self, alloc: Global) -> Result<Layout, LayoutError>
+        ensures { LaysWithin (2 ^ 21) result self.now }
+    {
+        let shapes = copy_shapes(alloc, self.shapes.as_slice())?;
+        let firsts = Vec::from_slice(alloc, &self.firsts)?;
+        Ok(Layout { shapes, firsts })
+    }
+
+    /// The layout with a place for each further name of the declarations, as for a scalar: those that live in a loop
+    /// alone. These places come after all others and don't count for the limit of places. `TooManyPlaces` takes more
+    /// than 2^20 such names.
+    pub fn with_scalars(&self, alloc: Global, decls: &[Decl]) -> Result<Layout, LayoutError>
+        ensures { LaysWithin (2 ^ 21) result (with_scalars self.now decls.now) }
+    {
+        let mut layout = self.copy(alloc)?;
+        for decl in decls {
+            layout = layout.with_scalar(alloc, &decl.name)?;
+        }
+        Ok(layout)
+    }
+
     /// The number of places.
     pub fn count(&self) -> u32
         ensures value { result ≡ length (keys_of self.now) }
-        ensures small { result ≤ 2 ^ 20 }
+        ensures small { result ≤ 2 ^ 21 }
     {
         self.firsts[self.shapes.len()]
     }
@@ -168,6 +213,7 @@ impl Layout {
     pub fn shapes(&self) -> &[Shape]
         ensures value { result.now ≡ self.now }
         ensures low { All (λ shape. All IsLow shape.axes) self.now }
+        ensures once { HasEachOnce self.now }
     {
         self.shapes.as_slice()
     }
@@ -176,7 +222,7 @@ impl Layout {
     pub fn first(&self, slot: usize) -> u32
         requires { slot ≤ length self.now }
         ensures value { result ≡ length (keys_of (take slot self.now)) }
-        ensures small { result ≤ 2 ^ 20 }
+        ensures small { result ≤ 2 ^ 21 }
     {
         self.firsts[slot]
     }
@@ -187,7 +233,7 @@ impl Layout {
         ensures value { result ≡ length (keys_of (take (slot + 1) self.now)) }
         ensures small { result ≤ length (keys_of self.now) }
         ensures after { length (keys_of (take slot self.now)) ≤ result }
-        ensures room { result ≤ 2 ^ 20 }
+        ensures room { result ≤ 2 ^ 21 }
     {
         let _shape = &self.shapes.as_slice()[slot];
         self.firsts[slot + 1]
@@ -225,6 +271,38 @@ impl Layout {
     }
 }
 
+fn scalar_shape(alloc: Global, name: &Name) -> Result<Shape, Memory>
+    ensures { IfOk result (λ s. s ≡ scalar name.now) }
+{
+    Ok(Shape {
+        name: name.clone(alloc)?,
+        axes: Items::new(alloc),
+    })
+}
+
+fn copy_shape(alloc: Global, shape: &Shape) -> Result<Shape, Memory>
+    ensures { IfOk result (λ s. s ≡ shape.now) }
+{
+    let mut axes = Items::new(alloc);
+    for axis in shape.axes.as_slice() {
+        axes.push(*axis)?;
+    }
+    Ok(Shape {
+        name: shape.name.clone(alloc)?,
+        axes,
+    })
+}
+
+fn copy_shapes(alloc: Global, shapes: &[Shape]) -> Result<Items<Shape>, Memory>
+    ensures { IfOk result (λ all. all ≡ shapes.now) }
+{
+    let mut all = Items::new(alloc);
+    for shape in shapes {
+        all.push(copy_shape(alloc, shape)?)?;
+    }
+    Ok(all)
+}
+
 fn slot_among(shapes: &[Shape], name: &Name) -> Option<usize>
     ensures value { result ≡ slot_of shapes.now name.now }
     ensures within { IfSome result (λ slot. slot < length shapes.now) }
@@ -240,7 +318,7 @@ fn slot_among(shapes: &[Shape], name: &Name) -> Option<usize>
 /// The place of subscripts in an array whose first place is `first`.
 fn place_from(first: u32, next: u32, axes: &[Axis], subscripts: &[i64]) -> Option<u32>
     requires long { next ≡ first + size_of axes.now }
-    requires small { next ≤ 2 ^ 20 }
+    requires small { next ≤ 2 ^ 21 }
     ensures { result ≡ option_map (λ k. first + k) (offset_of axes.now subscripts.now) }
 {
     if next == first {

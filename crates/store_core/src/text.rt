@@ -22,7 +22,7 @@ impl Axis {
 /// The subscripts at a position.
 pub(crate) fn subscripts(alloc: Global, axes: &[Axis], at: u32) -> Result<Items<i128>, Memory>
     requires below { at < size_of axes.now }
-    requires room { size_of axes.now ≤ 2 ^ 20 }
+    requires room { size_of axes.now ≤ 2 ^ 21 }
     requires lows { All IsLow axes.now }
     ensures { IfOk result (λ ss. ss ≡ subscripts_at axes.now at) }
 {
@@ -94,7 +94,7 @@ impl Layout {
 /// The name of a shape with the subscripts at a position.
 fn place_text(alloc: Global, shape: &Shape, at: u32) -> Result<Vec<u8>, Memory>
     requires below { at < size_of shape.now.axes }
-    requires room { size_of shape.now.axes ≤ 2 ^ 20 }
+    requires room { size_of shape.now.axes ≤ 2 ^ 21 }
     requires lows { All IsLow shape.now.axes }
     ensures { IfOk result (λ text. text.items
         ≡ text_of (shape.now.name, subscripts_at shape.now.axes at)) }

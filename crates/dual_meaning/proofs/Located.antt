@@ -1,0 +1,35 @@
+-- The place of an occurrence, by its slot.
+use Rattle.std.specs.Prelude.{◌≡◌, ℕ, zero, suc, ℤ, List, [], ◌∷◌, Option, Some, None, Result, Ok, Err, slice_get, length, ◌<◌, option_and_then, refl}
+use Rattle.std.proofs.Common.{arith, ap, sym, ◌∙◌, subst}
+use Rattle.store_core.specs.declared.layout.Shape.{Shape}
+use Rattle.store_core.specs.Keys.{place_in_slot, place_of as place_in_shapes}
+use Rattle.fl_ast.specs.Tree.{Designator, Expressions}
+use Rattle.dual_meaning.specs.declared.value.Value.{Value}
+use Rattle.dual_meaning.specs.declared.value.Cause.{Cause}
+use Rattle.dual_meaning.specs.Values.{wholes}
+use Rattle.dual_meaning.specs.Logs.{Log, Told, pure, joined, ◌>>=◌}
+use Rattle.dual_meaning.specs.Expressions.{values_of}
+use Rattle.dual_meaning.specs.Answers.{numbers_of, located}
+use Rattle.dual_meaning.specs.Scenes.{Names, scene_site}
+use Rattle.dual_meaning.specs.Codes.{slot_name, shape_name}
+use Rattle.dual_meaning.specs.Sites.{Cells, Site, place_of}
+
+by_shapes : (all shapes : List Shape) (slot : ℕ) (numbers : List ℤ) → slot < length shapes
+    → option_and_then (λ (s : Shape). place_in_shapes all s.name numbers) (slice_get shapes slot) ≡ place_in_shapes all (shape_name (slice_get shapes slot)) numbers
+by_shapes all [] slot numbers h = absurd (omega arith)
+by_shapes all (s ∷ shapes) zero numbers h = refl
+by_shapes all (s ∷ shapes) (suc slot) numbers h = by_shapes all shapes slot numbers (omega arith)
+
+-- the place in a slot is the place of its name
+pub place_by_slot : (names : Names) (slot : ℕ) (numbers : List ℤ) → slot < length names.0 → place_in_slot names.0 slot numbers ≡ place_of (scene_site names) (slot_name names.0 slot) numbers
+place_by_slot names slot numbers h = by_shapes names.0 names.0 slot numbers h
+
+joined_place : (l : Log) (r : Result (List Value) Cause) (f : List ℤ → Option ℕ) (zs : List ℤ) → numbers_of r ≡ Ok zs
+    → (joined {X = Cause} {A = List Value} {B = Option ℕ} l r (λ vs. pure (f (wholes vs)))).out ≡ Ok (f zs)
+joined_place l (Ok vs) f zs e = let q : wholes vs ≡ zs = cc in ap (λ ws. Ok (f ws)) q
+joined_place l (Err c) f zs e = absurd (cc)
+
+-- where the numbers of the subscripts are these, the place is theirs
+pub located_at : (site : Site) (cells : Cells) (name : List ℕ) (subscripts : Expressions) (zs : List ℤ) → numbers_of (values_of subscripts site cells).out ≡ Ok zs
+    → (located site cells (record { name = name; subscripts = subscripts })).out ≡ Ok (place_of site name zs)
+located_at site cells name subscripts zs e = joined_place (values_of subscripts site cells).log (values_of subscripts site cells).out (place_of site name) zs e

@@ -1,0 +1,105 @@
+-- How assignments are run: an increment's terms are summed first, and the sum is added to the target.
+use Rattle.std.specs.Prelude.{◌≡◌, ℕ, List, Option, Some, None, Result, Ok, Err, slice_set, ◌+ℤ◌, ◌-ℤ◌, int_div}
+use Rattle.ring_core.specs.Index.{IsIndex}
+use Rattle.store_core.specs.Bounds.{clipped}
+use Rattle.fl_ast.specs.declared.kind.BinOp.{BinOp}
+use Rattle.fl_ast.specs.declared.kind.BinOp.TheVariants.{Add, Sub, Mul, Div}
+use Rattle.fl_ast.specs.Tree.{Expression, literal, get, minus, binary, power, call, Designator}
+use Rattle.fl_types.specs.declared.increment.IncrementForm.{IncrementForm}
+use Rattle.fl_types.specs.declared.increment.IncrementForm.TheVariants.{Chain, Sum}
+use Rattle.dual_meaning.specs.declared.value.Dual.{Dual}
+use Rattle.dual_meaning.specs.declared.value.Value.{Value}
+use Rattle.dual_meaning.specs.declared.value.Value.TheVariants.{Ring}
+use Rattle.dual_meaning.specs.declared.value.Cause.{Cause}
+use Rattle.dual_meaning.specs.declared.value.Cause.TheVariants.{Bounds, Unset}
+use Rattle.dual_meaning.specs.declared.value.TrapAt.{TrapAt}
+use Rattle.dual_meaning.specs.declared.value.Turns.{Turns}
+use Rattle.dual_meaning.specs.declared.evaluator.EvalStop.{EvalStop}
+use Rattle.dual_meaning.specs.declared.evaluator.EvalStop.TheVariants as eval
+use Rattle.dual_meaning.specs.declared.runner.RunStop.{RunStop}
+use Rattle.dual_meaning.specs.declared.runner.RunStop.TheVariants as run
+use Rattle.dual_meaning.specs.Values.{dual_add, dual_sub, as_dual}
+use Rattle.dual_meaning.specs.Logs.{Told, pure, lift, ◌>>=◌}
+use Rattle.dual_meaning.specs.Sites.{Cells, Site}
+use Rattle.dual_meaning.specs.Expressions.{content, value_of}
+use Rattle.dual_meaning.specs.Statements.{put}
+use Rattle.dual_meaning.specs.Answers.{located}
+
+-- the subscripts, the check of bounds, and the store
+abbrev pub put_by : Site → Cells → Designator → Value → Told Cause Cells
+put_by site cells p v = located site cells p >>= put site cells p.name v
+
+abbrev pub grow_cell_by : Cells → List ℕ → Dual → ℕ → Option Value → Told Cause Cells
+grow_cell_by cells x d p None = lift (Err (Unset x))
+grow_cell_by cells x d p (Some v) = pure (slice_set cells p (Some (Ring (dual_add (as_dual v) d))))
+
+abbrev pub grow_at : Cells → List ℕ → Dual → Option ℕ → Told Cause Cells
+grow_at cells x d None = lift (Err (Bounds x))
+grow_at cells x d (Some p) = grow_cell_by cells x d p (content cells p)
+
+-- the subscripts, the checks of bounds and of being set, and the update
+abbrev pub grow_by : Site → Cells → Designator → Dual → Told Cause Cells
+grow_by site cells p d = located site cells p >>= grow_at cells p.name d
+
+abbrev pub summed : BinOp → Dual → Dual → Dual
+summed Add d e = dual_add d e
+summed Sub d e = dual_sub d e
+summed Mul d e = dual_add d e
+summed Div d e = dual_add d e
+
+abbrev pub no_sum : Dual
+no_sum = record { value = 0; tangent = 0 }
+
+-- the sum of a chain's terms after the first
+abbrev pub chain_sum : Expression → Site → Cells → Told Cause Dual
+chain_sum (binary op a b) site cells = chain_sum a site cells >>= (λ d. value_of b site cells >>= (λ v. pure (summed op d (as_dual v))))
+chain_sum (literal n k) site cells = pure no_sum
+chain_sum (get x s) site cells = pure no_sum
+chain_sum (minus a) site cells = pure no_sum
+chain_sum (power a n) site cells = pure no_sum
+chain_sum (call f s) site cells = pure no_sum
+
+-- the first operand
+abbrev pub front : Expression → Expression
+front (binary op a b) = a
+front (literal n k) = literal n k
+front (get x s) = get x s
+front (minus a) = minus a
+front (power a n) = power a n
+front (call f s) = call f s
+
+abbrev pub by_form : Option IncrementForm → Site → Cells → Designator → Expression → Told Cause Cells
+by_form None site cells p e = value_of e site cells >>= (λ v. put_by site cells p v)
+by_form (Some Chain) site cells p e = chain_sum e site cells >>= (λ d. grow_by site cells p d)
+by_form (Some Sum) site cells p e = value_of (front e) site cells >>= (λ v. grow_by site cells p (as_dual v))
+
+-- bounds of the index kind, with the number of turns between them
+pub record IsCounted (t : Turns) : Type 0 where
+  pub first : IsIndex t.first
+  pub last : IsIndex t.last
+  pub step : IsIndex t.step
+  pub count : t.count ≡ clipped (int_div ((t.last -ℤ t.first) +ℤ t.step) t.step)
+
+-- ---- answers
+
+abbrev pub stopped : ℕ → EvalStop → RunStop
+stopped line (eval.Trap c) = run.Trap (record { line = line; cause = c })
+stopped line eval.Memory = run.Memory
+
+-- the cells after a change or its cause, unless memory is wanting
+abbrev pub Sets : {A : Type 0} → Result A EvalStop → Cells → Result Cells Cause → Type 0
+Sets (Ok _) cells r = r ≡ Ok cells
+Sets (Err (eval.Trap c)) cells r = r ≡ Err c
+Sets (Err eval.Memory) cells r = Unit {0}
+
+-- the cells after a run or its trap
+abbrev pub Ran : {A : Type 0} → Result A RunStop → Cells → Result Cells TrapAt → Type 0
+Ran (Ok _) cells r = r ≡ Ok cells
+Ran (Err (run.Trap t)) cells r = r ≡ Err t
+Ran (Err run.Memory) cells r = Unit {0}
+
+-- what a step of a run answers
+abbrev pub AnswersAt : {A : Type 0} → Result A RunStop → Result A TrapAt → Type 0
+AnswersAt (Ok a) r = r ≡ Ok a
+AnswersAt (Err (run.Trap t)) r = r ≡ Err t
+AnswersAt (Err run.Memory) r = Unit {0}

@@ -1,0 +1,78 @@
+-- Resolved statements: the plain statement that each stands for, and what its slots and forms have to be.
+use Rattle.std.specs.Prelude.{ℕ, Bool, true, false, ◌&&◌, if◌then◌else◌, nat_lt, List, map, length, Option, Some, None}
+use Rattle.fl_ast.specs.Tree.{Expression, Designator, Condition, Statement, assignment, branch, loop, Statements, statements_of, Arms, arms_of}
+use Rattle.fl_types.specs.declared.increment.IncrementForm.{IncrementForm}
+use Rattle.fl_types.specs.declared.increment.IncrementForm.TheVariants.{Chain, Sum}
+use Rattle.fl_types.specs.Increment.{increment_form}
+use Rattle.store_core.specs.declared.layout.Shape.{Shape}
+use Rattle.dual_meaning.specs.declared.resolved.Code.{Code}
+use Rattle.dual_meaning.specs.declared.resolved.Step.{Step, fold-Step}
+use Rattle.dual_meaning.specs.declared.resolved.StepArm.{StepArm, fold-StepArm}
+use Rattle.dual_meaning.specs.declared.resolved.Step.TheOpen.{Step-F, StepArm-F}
+use Rattle.dual_meaning.specs.Scenes.{Names, is_ring_in}
+use Rattle.dual_meaning.specs.Codes.{slot_name, code_back, spot_back, test_back, all_of, is_within, is_spot_within, is_test_within}
+
+abbrev pub option_back : List Shape → Option Code → Option Expression
+option_back shapes None = None
+option_back shapes (Some code) = Some (code_back shapes code)
+
+abbrev pub step_level : List Shape → Step-F Statement (Condition × Statements) → Statement
+step_level shapes (Step-F.Assign line atomic target value form) = assignment line atomic (spot_back shapes target) (code_back shapes value)
+step_level shapes (Step-F.If line arms other) = branch line (arms_of arms) (statements_of other)
+step_level shapes (Step-F.Do line number variable first last step body) =
+    loop line number None (slot_name shapes variable) (code_back shapes first) (code_back shapes last) (option_back shapes step) (statements_of body)
+
+abbrev pub arm_level : List Shape → StepArm-F Statement (Condition × Statements) → Condition × Statements
+arm_level shapes a = (test_back shapes a.test, statements_of a.body)
+
+-- the statement that a resolved one stands for
+abbrev pub step_back : List Shape → Step → Statement
+step_back shapes = fold-Step Statement (Condition × Statements) (step_level shapes) (arm_level shapes)
+
+abbrev pub arm_back : List Shape → StepArm → Condition × Statements
+arm_back shapes = fold-StepArm Statement (Condition × Statements) (step_level shapes) (arm_level shapes)
+
+abbrev pub steps_back : List Shape → List Step → Statements
+steps_back shapes steps = statements_of (map (step_back shapes) steps)
+
+abbrev pub arms_back : List Shape → List StepArm → Arms
+arms_back shapes arms = arms_of (map (arm_back shapes) arms)
+
+-- ---- all slots are those of the names, and all forms those of the increments
+
+-- the form of an assignment where it is an increment
+abbrev pub form_in : Names → Designator → Expression → Option IncrementForm
+form_in names p e = if is_ring_in names p.name then increment_form p e else None
+
+abbrev pub same_form : Option IncrementForm → Option IncrementForm → Bool
+same_form None None = true
+same_form (Some Chain) (Some Chain) = true
+same_form (Some Sum) (Some Sum) = true
+same_form _ _ = false
+
+abbrev pub is_option_within : ℕ → Option Code → Bool
+is_option_within n None = true
+is_option_within n (Some code) = is_within n code
+
+abbrev pub step_fit : Names → Step-F Bool Bool → Bool
+step_fit names (Step-F.Assign line atomic target value form) =
+    is_spot_within (length names.0) target && (is_within (length names.0) value && same_form form (form_in names (spot_back names.0 target) (code_back names.0 value)))
+step_fit names (Step-F.If line arms other) = all_of arms && all_of other
+step_fit names (Step-F.Do line number variable first last step body) =
+    nat_lt variable (length names.0)
+    && (is_within (length names.0) first && (is_within (length names.0) last && (is_option_within (length names.0) step && all_of body)))
+
+abbrev pub arm_fit : Names → StepArm-F Bool Bool → Bool
+arm_fit names a = is_test_within (length names.0) a.test && all_of a.body
+
+abbrev pub is_fit : Names → Step → Bool
+is_fit names = fold-Step Bool Bool (step_fit names) (arm_fit names)
+
+abbrev pub is_arm_fit : Names → StepArm → Bool
+is_arm_fit names = fold-StepArm Bool Bool (step_fit names) (arm_fit names)
+
+abbrev pub are_fit : Names → List Step → Bool
+are_fit names steps = all_of (map (is_fit names) steps)
+
+abbrev pub are_arms_fit : Names → List StepArm → Bool
+are_arms_fit names arms = all_of (map (is_arm_fit names) arms)

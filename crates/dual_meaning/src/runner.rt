@@ -1,0 +1,442 @@
+ghost use Rattle.std.specs.Prelude.{◌≡◌, ◌≢◌, true, ◌<◌, Some, length, slice_set, pos, neg_ℤ, ◌+ℤ◌, ◌*ℤ◌, ◌≤ℤ◌, ◌^◌, int_div, IfOk};
+ghost use Rattle.ring_core.specs.Index.{IsIndex};
+ghost use Rattle.store_core.specs.Bounds.{clipped};
+ghost use Rattle.dual_meaning.specs.Logs.{at_line};
+ghost use Rattle.dual_meaning.specs.Expressions.{value_of, holds as holds_lem};
+ghost use Rattle.dual_meaning.specs.Statements.{turns_by, turns_of as turns_of_lem, step_value, set_at, one_turn, turns as turns_lem, run as run_lem, run_all};
+ghost use Rattle.dual_meaning.specs.Sequential.{is_sequential, are_sequential};
+ghost use Rattle.dual_meaning.specs.Scenes.{scene_site};
+ghost use Rattle.dual_meaning.specs.Codes.{code_back, spot_back, test_back, slot_name, is_within, is_spot_within, is_test_within};
+ghost use Rattle.dual_meaning.specs.Steps.{step_back, steps_back, option_back, is_option_within, is_fit, are_fit};
+ghost use Rattle.dual_meaning.specs.Answers.{Answers};
+ghost use Rattle.dual_meaning.specs.Running.{put_by, grow_by, chain_sum, summed, front as front_lem, by_form, IsCounted, stopped as stopped_lem, Sets, Ran, AnswersAt};
+ghost use Rattle.dual_meaning.specs.declared.value.Value.TheVariants.{Index as index_value};
+ghost use Rattle.dual_meaning.specs.declared.runner.RunStop.TheVariants.{Memory as memory};
+
+use crate::evaluator::{EvalStop, cell, evaluate, holds, locate, out_of_bounds, unset};
+use crate::resolved::{Code, Spot, Step, Test};
+use crate::scene::Scene;
+use crate::value::{Cause, Dual, TrapAt, Turns, Value};
+use fl_ast::{BinOp, Memory};
+use fl_types::IncrementForm;
+use ring_core::{Index, Ring};
+use std::alloc::Global;
+
+/// Why a run ended early.
+#[derive(Debug, Drop)]
+pub enum RunStop {
+    Trap(TrapAt),
+    Memory,
+}
+
+impl From<Memory> for RunStop {
+    ghost from_gives = { λ _ e. e ≡ memory };
+
+    fn from(_: Memory) -> RunStop {
+        RunStop::Memory
+    }
+}
+
+/// Sets a cell, where there is one at the place.
+fn set(cells: &mut Vec<Option<Value>>, place: u32, value: Value)
+    ensures { cells.new.items ≡ slice_set cells.old.items place (Some value) }
+{
+    if (place as usize) < cells.len() {
+        cells[place as usize] = Some(value);
+    }
+}
+
+/// Sets a place to a value, converted to the kind of its name.
+fn put(
+    alloc: Global,
+    scene: &Scene,
+    cells: &mut Vec<Option<Value>>,
+    target: &Spot,
+    value: Value,
+) -> Result<(), EvalStop>
+    requires { is_spot_within (length scene.now.0) target.now ≡ true }
+    ensures { Sets result cells.new.items
+        (put_by (scene_site scene.now) cells.old.items (spot_back scene.now.0 target.now) value).out }
+{
+    match locate(alloc, scene, cells, target)? {
+        None => Err(out_of_bounds(alloc, scene, target.slot)?),
+        Some(place) => {
+            set(cells, place, value.converted(scene.kind(target.slot)));
+            Ok(())
+        }
+    }
+}
+
+/// Adds to a place, which has to be set.
+fn grow(
+    alloc: Global,
+    scene: &Scene,
+    cells: &mut Vec<Option<Value>>,
+    target: &Spot,
+    more: Dual,
+) -> Result<(), EvalStop>
+    requires { is_spot_within (length scene.now.0) target.now ≡ true }
+    ensures { Sets result cells.new.items
+        (grow_by (scene_site scene.now) cells.old.items (spot_back scene.now.0 target.now) more).out }
+{
+    match locate(alloc, scene, cells, target)? {
+        None => Err(out_of_bounds(alloc, scene, target.slot)?),
+        Some(place) => match cell(cells, place) {
+            None => Err(unset(alloc, scene, target.slot)?),
+            Some(value) => {
+                set(cells, place, Value::Ring(value.as_dual().add(more)));
+                Ok(())
+            }
+        },
+    }
+}
+
+fn added(op: BinOp, sum: Dual, term: Dual) -> Dual
+    ensures { result ≡ summed op sum term }
+{
+    match op {
+        BinOp::Sub => sum.sub(term),
+        _ => sum.add(term),
+    }
+}
+
+/// The sum of a chain's terms after its first operand.
+fn sum_of_chain(
+    alloc: Global,
+    scene: &Scene,
+    cells: &[Option<Value>],
+    value: &Code,
+) -> Result<Dual, EvalStop>
+    requires { is_within (length scene.now.0) value.now ≡ true }
+    ensures { Answers result (chain_sum (code_back scene.now.0 value.now) (scene_site scene.now) cells.now).out }
+{
+    match value {
+        Code::Bin { op, left, right } => {
+            let sum = sum_of_chain(alloc, scene, cells, left.get())?;
+            let term = evaluate(alloc, scene, cells, right.get())?;
+            Ok(added(*op, sum, term.as_dual()))
+        }
+        _ => Ok(Dual::constant(Ring::of_word(0))),
+    }
+}
+
+/// The value of an operation's first operand.
+fn front(
+    alloc: Global,
+    scene: &Scene,
+    cells: &[Option<Value>],
+    value: &Code,
+) -> Result<Value, EvalStop>
+    requires { is_within (length scene.now.0) value.now ≡ true }
+    ensures { Answers result (value_of (front_lem (code_back scene.now.0 value.now)) (scene_site scene.now) cells.now).out }
+{
+    match value {
+        Code::Bin { left, .. } => evaluate(alloc, scene, cells, left.get()),
+        _ => evaluate(alloc, scene, cells, value),
+    }
+}
+
+fn assign(
+    alloc: Global,
+    scene: &Scene,
+    cells: &mut Vec<Option<Value>>,
+    target: &Spot,
+    value: &Code,
+    form: Option<IncrementForm>,
+) -> Result<(), EvalStop>
+    requires target { is_spot_within (length scene.now.0) target.now ≡ true }
+    requires value { is_within (length scene.now.0) value.now ≡ true }
+    ensures { Sets result cells.new.items
+        (by_form form (scene_site scene.now) cells.old.items (spot_back scene.now.0 target.now) (code_back scene.now.0 value.now)).out }
+{
+    match form {
+        None => {
+            let value = evaluate(alloc, scene, cells, value)?;
+            put(alloc, scene, cells, target, value)
+        }
+        Some(IncrementForm::Chain) => {
+            let more = sum_of_chain(alloc, scene, cells, value)?;
+            grow(alloc, scene, cells, target, more)
+        }
+        Some(IncrementForm::Sum) => {
+            let more = front(alloc, scene, cells, value)?;
+            grow(alloc, scene, cells, target, more.as_dual())
+        }
+    }
+}
+
+/// How many steps go into a distance.
+#[tactic(auto, using(crate::proofs::Counts::counts))]
+fn turn_count(distance: i64, step: i64) -> u64
+    requires { step ≢ pos 0 }
+    ensures { result ≡ clipped (int_div distance step) }
+{
+    if step < 0 {
+        if distance < 0 {
+            distance.unsigned_abs() / step.unsigned_abs()
+        } else {
+            0
+        }
+    } else {
+        if distance < 0 {
+            0
+        } else {
+            distance.unsigned_abs() / step.unsigned_abs()
+        }
+    }
+}
+
+/// How often a loop with these bounds runs.
+fn turns_between(first: i32, last: i32, step: i32) -> Result<Turns, Cause>
+    ensures value { result ≡ (turns_by first last step).out }
+    ensures counted { IfOk result IsCounted }
+{
+    if step == 0 {
+        return Err(Cause::ZeroDivisor);
+    }
+    let distance = i64::from(last) - i64::from(first) + i64::from(step);
+    let count = turn_count(distance, i64::from(step));
+    Ok(Turns {
+        first,
+        last,
+        step,
+        count,
+    })
+}
+
+fn step_of(
+    alloc: Global,
+    scene: &Scene,
+    cells: &[Option<Value>],
+    step: &Option<Code>,
+) -> Result<Value, EvalStop>
+    requires { is_option_within (length scene.now.0) step.now ≡ true }
+    ensures { Answers result (step_value (option_back scene.now.0 step.now) (scene_site scene.now) cells.now).out }
+{
+    match step {
+        None => Ok(Value::Index(Index::of(1))),
+        Some(step) => evaluate(alloc, scene, cells, step),
+    }
+}
+
+fn turns_of(
+    alloc: Global,
+    scene: &Scene,
+    cells: &[Option<Value>],
+    first: &Code,
+    last: &Code,
+    step: &Option<Code>,
+) -> Result<Turns, EvalStop>
+    requires first { is_within (length scene.now.0) first.now ≡ true }
+    requires last { is_within (length scene.now.0) last.now ≡ true }
+    requires step { is_option_within (length scene.now.0) step.now ≡ true }
+    ensures value { Answers result (turns_of_lem (code_back scene.now.0 first.now) (code_back scene.now.0 last.now)
+        (option_back scene.now.0 step.now) (scene_site scene.now) cells.now).out }
+    ensures counted { IfOk result IsCounted }
+{
+    let first = evaluate(alloc, scene, cells, first)?;
+    let last = evaluate(alloc, scene, cells, last)?;
+    let step = step_of(alloc, scene, cells, step)?;
+    Ok(turns_between(first.whole(), last.whole(), step.whole())?)
+}
+
+/// A stop in a statement at a line.
+fn stopped(line: u32, stop: EvalStop) -> RunStop
+    ensures { result ≡ stopped_lem line stop }
+{
+    match stop {
+        EvalStop::Trap(cause) => RunStop::Trap(TrapAt { line, cause }),
+        EvalStop::Memory => RunStop::Memory,
+    }
+}
+
+fn test_at(
+    alloc: Global,
+    scene: &Scene,
+    cells: &[Option<Value>],
+    line: u32,
+    test: &Test,
+) -> Result<bool, RunStop>
+    requires { is_test_within (length scene.now.0) test.now ≡ true }
+    ensures { AnswersAt result (at_line line (holds_lem (test_back scene.now.0 test.now) (scene_site scene.now) cells.now)).out }
+{
+    match holds(alloc, scene, cells, test) {
+        Ok(holds) => Ok(holds),
+        Err(stop) => Err(stopped(line, stop)),
+    }
+}
+
+fn turns_at(
+    alloc: Global,
+    scene: &Scene,
+    cells: &[Option<Value>],
+    line: u32,
+    first: &Code,
+    last: &Code,
+    step: &Option<Code>,
+) -> Result<Turns, RunStop>
+    requires first { is_within (length scene.now.0) first.now ≡ true }
+    requires last { is_within (length scene.now.0) last.now ≡ true }
+    requires step { is_option_within (length scene.now.0) step.now ≡ true }
+    ensures value { AnswersAt result (at_line line (turns_of_lem (code_back scene.now.0 first.now) (code_back scene.now.0 last.now)
+        (option_back scene.now.0 step.now) (scene_site scene.now) cells.now)).out }
+    ensures counted { IfOk result IsCounted }
+{
+    match turns_of(alloc, scene, cells, first, last, step) {
+        Ok(turns) => Ok(turns),
+        Err(stop) => Err(stopped(line, stop)),
+    }
+}
+
+fn assign_at(
+    alloc: Global,
+    scene: &Scene,
+    cells: &mut Vec<Option<Value>>,
+    line: u32,
+    target: &Spot,
+    value: &Code,
+    form: Option<IncrementForm>,
+) -> Result<(), RunStop>
+    requires target { is_spot_within (length scene.now.0) target.now ≡ true }
+    requires value { is_within (length scene.now.0) value.now ≡ true }
+    ensures { Ran result cells.new.items (at_line line (by_form form (scene_site scene.now) cells.old.items
+        (spot_back scene.now.0 target.now) (code_back scene.now.0 value.now))).out }
+{
+    match assign(alloc, scene, cells, target, value, form) {
+        Ok(()) => Ok(()),
+        Err(stop) => Err(stopped(line, stop)),
+    }
+}
+
+fn times(turn: i128, step: i128) -> i128
+    requires turn_low { pos 0 ≤ℤ turn }
+    requires turn_high { turn ≤ℤ pos (2 ^ 64) }
+    requires step_low { neg_ℤ (pos (2 ^ 31)) ≤ℤ step }
+    requires step_high { step ≤ℤ pos (2 ^ 31) }
+    ensures value { result ≡ turn *ℤ step }
+    ensures low { neg_ℤ (pos (2 ^ 95)) ≤ℤ result }
+    ensures high { result ≤ℤ pos (2 ^ 95) }
+{
+    turn * step
+}
+
+#[tactic(auto, using(crate::proofs::Counts::from_range))]
+fn narrowed(value: i128) -> i32
+    requires { IsIndex value }
+    ensures { result ≡ value }
+{
+    value as i32
+}
+
+/// The value of a loop's variable in a turn, from 0.
+fn value_in(first: i32, step: i32, turn: u64) -> i32
+    requires { IsIndex (first +ℤ (pos turn *ℤ step)) }
+    ensures { result ≡ first +ℤ (pos turn *ℤ step) }
+{
+    narrowed(i128::from(first) + times(i128::from(turn), i128::from(step)))
+}
+
+/// Sets a loop's variable for a turn, where it has a place.
+fn begin_turn(
+    cells: &mut Vec<Option<Value>>,
+    place: Option<u32>,
+    first: i32,
+    step: i32,
+    turn: u64,
+)
+    requires { IsIndex (first +ℤ (pos turn *ℤ step)) }
+    ensures { cells.new.items ≡ set_at place (Some (index_value (first +ℤ (pos turn *ℤ step)))) cells.old.items }
+{
+    if let Some(place) = place {
+        set(cells, place, Value::Index(Index::of(value_in(first, step, turn))));
+    }
+}
+
+/// Runs a statement.
+#[cycle(run)]
+#[tactic(auto, using(crate::proofs::Turning::runs))]
+fn run_step(
+    alloc: Global,
+    scene: &Scene,
+    cells: &mut Vec<Option<Value>>,
+    step: &Step,
+) -> Result<(), RunStop>
+    requires fit { is_fit scene.now step.now ≡ true }
+    requires sequential { is_sequential (step_back scene.now.0 step.now) ≡ true }
+    ensures { Ran result cells.new.items (run_lem (step_back scene.now.0 step.now) (scene_site scene.now) cells.old.items).out }
+{
+    match step {
+        Step::Assign {
+            line,
+            target,
+            value,
+            form,
+            ..
+        } => assign_at(alloc, scene, cells, *line, target, value, *form),
+        Step::If { line, arms, other } => {
+            for arm in arms.as_slice() {
+                if test_at(alloc, scene, cells, *line, &arm.test)? {
+                    return run_steps(alloc, scene, cells, arm.body.as_slice());
+                }
+            }
+            run_steps(alloc, scene, cells, other.as_slice())
+        }
+        Step::Do {
+            line,
+            variable,
+            first,
+            last,
+            step,
+            body,
+            ..
+        } => {
+            let turns = turns_at(alloc, scene, cells, *line, first, last, step)?;
+            run_turns(alloc, scene, cells, *variable, turns, body.as_slice())
+        }
+    }
+}
+
+/// Runs the turns of a loop.
+#[cycle(run)]
+#[tactic(auto, using(crate::proofs::Turning::runs))]
+fn run_turns(
+    alloc: Global,
+    scene: &Scene,
+    cells: &mut Vec<Option<Value>>,
+    variable: usize,
+    turns: Turns,
+    body: &[Step],
+) -> Result<(), RunStop>
+    requires variable { variable < length scene.now.0 }
+    requires counted { IsCounted turns }
+    requires fit { are_fit scene.now body.now ≡ true }
+    requires sequential { are_sequential (steps_back scene.now.0 body.now) ≡ true }
+    ensures { Ran result cells.new.items (turns_lem turns.count (one_turn (scene_site scene.now) (slot_name scene.now.0 variable)
+        turns (run_all (steps_back scene.now.0 body.now))) cells.old.items).out }
+{
+    let place = scene.layout().place_in(variable, &[]);
+    for turn in 0..turns.count {
+        begin_turn(cells, place, turns.first, turns.step, turn);
+        run_steps(alloc, scene, cells, body)?;
+    }
+    Ok(())
+}
+
+/// Runs statements in order.
+#[cycle(run)]
+#[tactic(auto, using(crate::proofs::Turning::runs))]
+fn run_steps(
+    alloc: Global,
+    scene: &Scene,
+    cells: &mut Vec<Option<Value>>,
+    steps: &[Step],
+) -> Result<(), RunStop>
+    requires fit { are_fit scene.now steps.now ≡ true }
+    requires sequential { are_sequential (steps_back scene.now.0 steps.now) ≡ true }
+    ensures { Ran result cells.new.items (run_all (steps_back scene.now.0 steps.now) (scene_site scene.now) cells.old.items).out }
+{
+    for step in steps {
+        run_step(alloc, scene, cells, step)?;
+    }
+    Ok(())
+}
