@@ -1,5 +1,5 @@
 -- The run of an assignment by its form is the run of the assignment.
-use Rattle.std.specs.Prelude.{◌≡◌, ℕ, ℤ, Bool, true, false, if◌then◌else◌, List, [], ◌∷◌, ◌++◌, Option, Some, None, is_some, Result, Ok, Err, slice_set, refl}
+use Rattle.std.specs.Prelude.{◌≡◌, ℕ, Bool, true, false, if◌then◌else◌, List, [], ◌∷◌, ◌++◌, Option, Some, None, is_some, Result, Ok, Err, slice_set, refl}
 use Rattle.std.proofs.Common.{ap, sym, ◌∙◌, subst, arith}
 use Rattle.ring_core.proofs.Modular.{modular, modulo}
 use Rattle.ring_core.specs.Ring.{ring_add, ring_sub}
@@ -7,14 +7,13 @@ use Rattle.fl_ast.specs.declared.kind.BinOp.TheVariants.{Add, Sub, Mul, Div}
 use Rattle.fl_ast.specs.Tree.{Expression, literal, get, minus, binary, power, call, Expressions, Designator}
 use Rattle.fl_ast.specs.Same.{same_expression}
 use Rattle.fl_types.specs.declared.access.AccessKind.{AccessKind}
-use Rattle.fl_types.specs.declared.access.AccessKind.TheVariants.{Write}
 use Rattle.fl_types.specs.declared.increment.IncrementForm.{IncrementForm}
 use Rattle.fl_types.specs.declared.increment.IncrementForm.TheVariants.{Chain, Sum}
 use Rattle.fl_types.specs.Increment.{Signed, longer, target_of, chain, first_of_sum, are_free_of, if_free, either, rest_terms, increment_form, increment_terms}
 use Rattle.fl_types.specs.Accesses.{increment_kind}
 use Rattle.dual_meaning.specs.declared.value.Dual.{Dual}
 use Rattle.dual_meaning.specs.declared.value.Value.{Value}
-use Rattle.dual_meaning.specs.declared.value.Value.TheVariants.{Index, Ring}
+use Rattle.dual_meaning.specs.declared.value.Value.TheVariants.{Ring}
 use Rattle.dual_meaning.specs.declared.value.Cause.{Cause}
 use Rattle.dual_meaning.specs.Values.{dual_add, dual_sub, as_dual, wholes}
 use Rattle.dual_meaning.specs.Logs.{Log, Told, pure, joined, ◌>>=◌}
@@ -25,7 +24,7 @@ use Rattle.dual_meaning.specs.Scenes.{Names, scene_site, is_ring_in}
 use Rattle.dual_meaning.specs.Steps.{form_in, same_form}
 use Rattle.dual_meaning.specs.Answers.{located}
 use Rattle.dual_meaning.specs.Running.{put_by, grow_cell_by, grow_at, grow_by, summed, no_sum, chain_sum, front, by_form}
-use Rattle.dual_meaning.proofs.ByKeys.{Agree, joined_agree, then_agree, touching_out}
+use Rattle.dual_meaning.proofs.ByKeys.{touching_out}
 
 -- one result and then another
 abbrev pub next : {X A B : Type 0} → Result A X → (A → Result B X) → Result B X
@@ -362,3 +361,8 @@ pub by_form_is : (names : Names) (cells : Cells) (atomic : Bool) (p : Designator
     → (by_form form (scene_site names) cells p e).out ≡ (assigned (scene_site names) cells atomic p e (increment_terms (is_ring_in names) p e)).out
 by_form_is names cells atomic p e form h =
     ap (λ f. (by_form f (scene_site names) cells p e).out) (same_form_is form (form_in names p e) h) ∙ by_ring (scene_site names) cells atomic p e (is_ring_in names p.name)
+
+pub same_form_again : (form : Option IncrementForm) → same_form form form ≡ true
+same_form_again None = refl
+same_form_again (Some Chain) = refl
+same_form_again (Some Sum) = refl

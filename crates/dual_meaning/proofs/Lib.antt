@@ -10,6 +10,7 @@ pub mod Counts
 pub mod Forms
 pub mod RunsByKeys
 pub mod Turning
+pub mod Names
 pub mod Variables
 pub mod ByKeys
 mod Accessed

@@ -1,13 +1,13 @@
 -- The place of an occurrence, by its slot.
-use Rattle.std.specs.Prelude.{◌≡◌, ℕ, zero, suc, ℤ, List, [], ◌∷◌, Option, Some, None, Result, Ok, Err, slice_get, length, ◌<◌, option_and_then, refl}
-use Rattle.std.proofs.Common.{arith, ap, sym, ◌∙◌, subst}
+use Rattle.std.specs.Prelude.{◌≡◌, ℕ, zero, suc, ℤ, List, [], ◌∷◌, Option, Result, Ok, Err, slice_get, length, ◌<◌, option_and_then, refl}
+use Rattle.std.proofs.Common.{arith, ap}
 use Rattle.store_core.specs.declared.layout.Shape.{Shape}
 use Rattle.store_core.specs.Keys.{place_in_slot, place_of as place_in_shapes}
-use Rattle.fl_ast.specs.Tree.{Designator, Expressions}
+use Rattle.fl_ast.specs.Tree.{Expressions}
 use Rattle.dual_meaning.specs.declared.value.Value.{Value}
 use Rattle.dual_meaning.specs.declared.value.Cause.{Cause}
 use Rattle.dual_meaning.specs.Values.{wholes}
-use Rattle.dual_meaning.specs.Logs.{Log, Told, pure, joined, ◌>>=◌}
+use Rattle.dual_meaning.specs.Logs.{Log, pure, joined}
 use Rattle.dual_meaning.specs.Expressions.{values_of}
 use Rattle.dual_meaning.specs.Answers.{numbers_of, located}
 use Rattle.dual_meaning.specs.Scenes.{Names, scene_site}

@@ -1,10 +1,9 @@
 -- Runs of statements without parallel loops at two sites with the same keys and kinds.
-use Rattle.std.specs.Prelude.{◌≡◌, ℕ, zero, suc, ◌+◌, ◌<◌, ℤ, Bool, true, false, if◌then◌else◌, List, [], ◌∷◌, Option, Some, None, Result, Ok, Err, slice_set, refl}
-use Rattle.std.proofs.Common.{ap, sym, ◌∙◌, subst, arith}
+use Rattle.std.specs.Prelude.{◌≡◌, ℕ, zero, suc, ◌+◌, ℤ, Bool, true, false, if◌then◌else◌, List, [], ◌∷◌, Option, Some, None, Result, Ok, Err, slice_set, refl}
+use Rattle.std.proofs.Common.{ap, sym, ◌∙◌}
 use Rattle.std.proofs.lemmas.Bool.{and_parts}
 use Rattle.fl_ast.specs.declared.kind.Kind.TheVariants as kind
-use Rattle.fl_ast.specs.declared.directive.Directive.{Directive}
-use Rattle.fl_ast.specs.Tree.{Expression, Designator, Condition, Statement, assignment, branch, loop, Statements, no_statements, statement, Arms, no_arms, arm}
+use Rattle.fl_ast.specs.Tree.{Expression, Designator, Statement, assignment, branch, loop, Statements, no_statements, statement, Arms, no_arms, arm}
 use Rattle.fl_types.specs.declared.access.AccessKind.{AccessKind}
 use Rattle.fl_types.specs.declared.access.AccessKind.TheVariants.{Write}
 use Rattle.fl_types.specs.Increment.{Signed, rest_terms, increment_terms}
@@ -14,13 +13,12 @@ use Rattle.dual_meaning.specs.declared.value.Dual.{Dual}
 use Rattle.dual_meaning.specs.declared.value.Value.{Value}
 use Rattle.dual_meaning.specs.declared.value.Value.TheVariants.{Index, Ring}
 use Rattle.dual_meaning.specs.declared.value.Cause.{Cause}
-use Rattle.dual_meaning.specs.declared.value.TrapAt.{TrapAt}
 use Rattle.dual_meaning.specs.declared.value.Turns.{Turns}
-use Rattle.dual_meaning.specs.Values.{as_dual, converted, whole, wholes}
-use Rattle.dual_meaning.specs.Logs.{Log, single, pushes, instance, turn, condition, taken, Told, pure, after, ◌>>=◌, inside, at_line, at_line_by}
+use Rattle.dual_meaning.specs.Values.{as_dual, converted, wholes}
+use Rattle.dual_meaning.specs.Logs.{single, pushes, condition, Told, pure, after, inside, at_line, at_line_by}
 use Rattle.dual_meaning.specs.Sites.{Key, Cells, Site, in_turn, place_of, kind_of, word_of}
 use Rattle.dual_meaning.specs.Expressions.{content, value_of, values_of, holds}
-use Rattle.dual_meaning.specs.Statements.{Run, noted, stored, saving, put, plain, terms_of, grown, grow_cell, grow, increment, assigned, turns_by, step_value, turns_of, value_at, set_at, setting, turns, loop_words, one_turn, run_loop, chosen, in_arm, run, run_all, run_arms}
+use Rattle.dual_meaning.specs.Statements.{Run, noted, stored, saving, put, plain, terms_of, grown, grow_cell, grow, increment, assigned, step_value, turns_of, value_at, set_at, turns, loop_words, one_turn, chosen, in_arm, run, run_all, run_arms}
 use Rattle.dual_meaning.specs.Sequential.{is_sequential, are_sequential, are_arms_sequential}
 use Rattle.dual_meaning.specs.Laws.{SequentialRunsGoByKeys}
 use Rattle.dual_meaning.proofs.ByKeys.{Agree, then_agree, touching_out, value_agree, values_agree, holds_agree}

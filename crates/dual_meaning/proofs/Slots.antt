@@ -50,10 +50,12 @@ all_more (a ∷ bs) b h g =
     let p : (a ≡ true) × (all_of bs ≡ true) = and_parts a (all_of bs) h in
     and_from a _ p.0 (all_more bs b p.1 g)
 
+-- all pass a test, and one more
+pub all_pushed : {A : Type 0} (p : A → Bool) (xs : List A) (x : A) → all_of (map p xs) ≡ true → p x ≡ true → all_of (map p (xs ++ x ∷ [])) ≡ true
+all_pushed p xs x h g = subst (λ (bs : List Bool). all_of bs ≡ true) (sym (map-append p xs (x ∷ []))) (all_more (map p xs) (p x) h g)
+
 pub within_push : (n : ℕ) (codes : List Code) (code : Code) → are_within n codes ≡ true → is_within n code ≡ true → are_within n (codes ++ code ∷ []) ≡ true
-within_push n codes code h g =
-    let P : List Bool → Type 0 = λ bs. all_of bs ≡ true in
-    subst P (sym (map-append (is_within n) codes (code ∷ []))) (all_more (map (is_within n) codes) (is_within n code) h g)
+within_push n codes code h g = all_pushed (is_within n) codes code h g
 
 apart_name : (es : List Shape) (k : ℕ) (x : List ℕ) → IsApart x es → k < length es → bytes_eq (slot_name es k) x ≡ false
 apart_name [] k x h l = absurd (omega arith)

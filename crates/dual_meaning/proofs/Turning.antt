@@ -1,19 +1,17 @@
 -- Runs of statements, arms and turns, piece by piece.
-use Rattle.std.specs.Prelude.{◌≡◌, ℕ, zero, suc, ◌+◌, ◌<◌, ◌≤◌, ℤ, pos, ◌+ℤ◌, ◌*ℤ◌, Bool, true, false, List, [], ◌∷◌, length, Option, Some, None, Result, Ok, Err, refl}
-use Rattle.std.proofs.Common.{◌⊎◌, inl, inr, w32, to_z, of_z, ap, sym, ◌∙◌, subst, arith}
+use Rattle.std.specs.Prelude.{◌≡◌, ℕ, zero, suc, ◌<◌, ◌≤◌, ℤ, pos, ◌+ℤ◌, ◌*ℤ◌, Bool, true, List, [], length, Option, Some, None, Result, Ok, Err, refl}
+use Rattle.std.proofs.Common.{◌⊎◌, inl, inr, w32, to_z, of_z, ap, sym, ◌∙◌, arith}
 use Rattle.std.proofs.lemmas.Bool.{cases_lt}
-use Rattle.fl_ast.specs.Tree.{Expression, Designator, Condition, Statement, assignment, branch, loop, Statements, no_statements, statement, Arms, no_arms, arm}
+use Rattle.fl_ast.specs.Tree.{Expression, Designator, assignment, loop, Statements}
 use Rattle.fl_types.specs.declared.increment.IncrementForm.{IncrementForm}
 use Rattle.fl_types.specs.Increment.{increment_terms}
 use Rattle.store_core.specs.Keys.{place_in_slot}
-use Rattle.dual_meaning.specs.declared.value.Value.{Value}
 use Rattle.dual_meaning.specs.declared.value.Value.TheVariants.{Index}
-use Rattle.dual_meaning.specs.declared.value.Cause.{Cause}
 use Rattle.dual_meaning.specs.declared.value.TrapAt.{TrapAt}
 use Rattle.dual_meaning.specs.declared.value.Turns.{Turns}
 use Rattle.dual_meaning.specs.Logs.{Log, single, pushes, Told, ◌>>=◌, at_line}
-use Rattle.dual_meaning.specs.Sites.{Cells, Site, in_turn, place_of}
-use Rattle.dual_meaning.specs.Statements.{Run, noted, assigned, turns_of, value_at, set_at, turns, one_turn, loop_words, run_loop, chosen, in_arm, run, run_all, run_arms}
+use Rattle.dual_meaning.specs.Sites.{Cells, Site, in_turn}
+use Rattle.dual_meaning.specs.Statements.{Run, noted, assigned, turns_of, value_at, set_at, turns, one_turn, loop_words, run_loop, in_arm, run, run_all}
 use Rattle.dual_meaning.specs.Sequential.{are_sequential}
 use Rattle.dual_meaning.specs.Scenes.{Names, scene_site, is_ring_in}
 use Rattle.dual_meaning.specs.Codes.{slot_name}
@@ -21,7 +19,6 @@ use Rattle.dual_meaning.specs.Steps.{form_in, same_form}
 use Rattle.dual_meaning.specs.declared.runner.RunStop.{RunStop}
 use Rattle.dual_meaning.specs.declared.runner.RunStop.TheVariants as stop
 use Rattle.dual_meaning.specs.Running.{by_form, Ran}
-use Rattle.dual_meaning.proofs.ByKeys.{Agree, then_agree}
 use Rattle.dual_meaning.proofs.Forms.{next, out_then, by_form_is}
 use Rattle.ring_core.specs.Index.{fits_index}
 use Rattle.dual_meaning.proofs.Counts.{computed}

@@ -18,6 +18,12 @@ use Rattle.dual_meaning.specs.declared.evaluator.EvalStop.{EvalStop}
 use Rattle.dual_meaning.specs.declared.evaluator.EvalStop.TheVariants as eval
 use Rattle.dual_meaning.specs.declared.runner.RunStop.{RunStop}
 use Rattle.dual_meaning.specs.declared.runner.RunStop.TheVariants as run
+use Rattle.store_core.specs.declared.layout.LayoutError.{LayoutError}
+use Rattle.store_core.specs.declared.layout.LayoutError.TheVariants as layout_error
+use Rattle.dual_meaning.specs.declared.resolve.ResolveError.{ResolveError}
+use Rattle.dual_meaning.specs.declared.resolve.ResolveError.TheVariants as resolve_error
+use Rattle.dual_meaning.specs.declared.sequential.RunError.{RunError}
+use Rattle.dual_meaning.specs.declared.sequential.RunError.TheVariants as failed
 use Rattle.dual_meaning.specs.Values.{dual_add, dual_sub, as_dual}
 use Rattle.dual_meaning.specs.Logs.{Told, pure, lift, ◌>>=◌}
 use Rattle.dual_meaning.specs.Sites.{Cells, Site}
@@ -81,6 +87,19 @@ pub record IsCounted (t : Turns) : Type 0 where
   pub count : t.count ≡ clipped (int_div ((t.last -ℤ t.first) +ℤ t.step) t.step)
 
 -- ---- answers
+
+abbrev pub of_layout : LayoutError → RunError
+of_layout layout_error.TooManyPlaces = failed.TooManyPlaces
+of_layout layout_error.Memory = failed.Memory
+
+abbrev pub of_resolving : ResolveError → RunError
+of_resolving resolve_error.Unplaced = failed.Unplaced
+of_resolving resolve_error.Parallel = failed.Parallel
+of_resolving resolve_error.Memory = failed.Memory
+
+abbrev pub of_stop : RunStop → RunError
+of_stop (run.Trap t) = failed.Trap t
+of_stop run.Memory = failed.Memory
 
 abbrev pub stopped : ℕ → EvalStop → RunStop
 stopped line (eval.Trap c) = run.Trap (record { line = line; cause = c })

@@ -1,16 +1,17 @@
 -- Resolved statements: the plain statement that each stands for, and what its slots and forms have to be.
-use Rattle.std.specs.Prelude.{ℕ, Bool, true, false, ◌&&◌, if◌then◌else◌, nat_lt, List, map, length, Option, Some, None}
-use Rattle.fl_ast.specs.Tree.{Expression, Designator, Condition, Statement, assignment, branch, loop, Statements, statements_of, Arms, arms_of}
+use Rattle.std.specs.Prelude.{ℕ, Bool, true, false, ◌&&◌, if◌then◌else◌, nat_lt, List, map, length, Option, Some, None, is_some}
+use Rattle.fl_ast.specs.Tree.{Expression, Designator, Condition, Statement, assignment, branch, loop, Statements, no_statements, statement, statements_of, Arms, no_arms, arm, arms_of}
 use Rattle.fl_types.specs.declared.increment.IncrementForm.{IncrementForm}
 use Rattle.fl_types.specs.declared.increment.IncrementForm.TheVariants.{Chain, Sum}
 use Rattle.fl_types.specs.Increment.{increment_form}
 use Rattle.store_core.specs.declared.layout.Shape.{Shape}
+use Rattle.store_core.specs.Keys.{slot_of}
 use Rattle.dual_meaning.specs.declared.resolved.Code.{Code}
 use Rattle.dual_meaning.specs.declared.resolved.Step.{Step, fold-Step}
 use Rattle.dual_meaning.specs.declared.resolved.StepArm.{StepArm, fold-StepArm}
 use Rattle.dual_meaning.specs.declared.resolved.Step.TheOpen.{Step-F, StepArm-F}
 use Rattle.dual_meaning.specs.Scenes.{Names, is_ring_in}
-use Rattle.dual_meaning.specs.Codes.{slot_name, code_back, spot_back, test_back, all_of, is_within, is_spot_within, is_test_within}
+use Rattle.dual_meaning.specs.Codes.{slot_name, code_back, spot_back, test_back, all_of, is_within, is_spot_within, is_test_within, is_placed, is_designator_placed, is_condition_placed}
 
 abbrev pub option_back : List Shape → Option Code → Option Expression
 option_back shapes None = None
@@ -76,3 +77,30 @@ are_fit names steps = all_of (map (is_fit names) steps)
 
 abbrev pub are_arms_fit : Names → List StepArm → Bool
 are_arms_fit names arms = all_of (map (is_arm_fit names) arms)
+
+-- ---- all names of a statement have slots
+
+abbrev pub is_option_placed : List Shape → Option Expression → Bool
+is_option_placed shapes None = true
+is_option_placed shapes (Some e) = is_placed shapes e
+
+abbrev pub is_head_placed : List Shape → List ℕ → Expression → Expression → Option Expression → Bool
+is_head_placed shapes var first last step = is_some (slot_of shapes var) && (is_placed shapes first && (is_placed shapes last && is_option_placed shapes step))
+
+abbrev mutual
+  pub is_statement_placed : List Shape → Statement → Bool
+  is_statement_placed shapes (assignment line atomic p e) = is_placed shapes e && is_designator_placed shapes p
+  is_statement_placed shapes (branch line arms other) = are_arms_placed shapes arms && are_statements_placed shapes other
+  is_statement_placed shapes (loop line number directive var first last step body) =
+      is_head_placed shapes var first last step && are_statements_placed shapes body
+
+  pub are_statements_placed : List Shape → Statements → Bool
+  are_statements_placed shapes no_statements = true
+  are_statements_placed shapes (statement s ss) = is_statement_placed shapes s && are_statements_placed shapes ss
+
+  pub are_arms_placed : List Shape → Arms → Bool
+  are_arms_placed shapes no_arms = true
+  are_arms_placed shapes (arm test body arms) = (is_condition_placed shapes test && are_statements_placed shapes body) && are_arms_placed shapes arms
+
+abbrev pub is_arm_placed : List Shape → Condition × Statements → Bool
+is_arm_placed shapes a = is_condition_placed shapes a.0 && are_statements_placed shapes a.1

@@ -151,6 +151,9 @@ pub(crate) fn locate(
     requires { is_spot_within (length scene.now.0) spot.now ≡ true }
     ensures { Answers result (located (scene_site scene.now) cells.now (spot_back scene.now.0 spot.now)).out }
 {
+    if spot.subscripts.is_empty() {
+        return Ok(scene.layout().place_in(spot.slot, &[]));
+    }
     let numbers = evaluate_subscripts(alloc, scene, cells, spot.subscripts.as_slice())?;
     Ok(scene.layout().place_in(spot.slot, numbers.as_slice()))
 }

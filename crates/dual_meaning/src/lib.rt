@@ -5,9 +5,11 @@ mod arithmetic;
 mod evaluator;
 mod laws;
 mod resolve;
+mod resolve_steps;
 mod resolved;
 mod runner;
 mod scene;
+mod sequential;
 mod value;
 
 pub use arithmetic::{binary, called, literal, related};
@@ -17,9 +19,11 @@ pub use laws::{
     values_go_by_keys, variables_fit,
 };
 pub use resolve::{ResolveError, resolve_expression, resolve_place, resolve_test};
+pub use resolve_steps::{resolve_statement, resolve_statements};
 pub use resolved::{Code, Spot, Step, StepArm, Test};
-pub use runner::RunStop;
+pub use runner::{RunStop, run_steps};
 pub use scene::Scene;
+pub use sequential::{RunError, run_sequential};
 pub use value::{Cause, Dual, TrapAt, Turns, Value};
 
 #[cfg(test)]

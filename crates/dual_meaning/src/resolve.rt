@@ -15,6 +15,8 @@ use store_core::Layout;
 pub enum ResolveError {
     /// A name has no slot in the layout.
     Unplaced,
+    /// There is a parallel loop among the statements.
+    Parallel,
     Memory,
 }
 

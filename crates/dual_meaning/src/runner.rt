@@ -337,18 +337,16 @@ fn value_in(first: i32, step: i32, turn: u64) -> i32
 }
 
 /// Sets a loop's variable for a turn, where it has a place.
-fn begin_turn(
-    cells: &mut Vec<Option<Value>>,
-    place: Option<u32>,
-    first: i32,
-    step: i32,
-    turn: u64,
-)
+fn begin_turn(cells: &mut Vec<Option<Value>>, place: Option<u32>, first: i32, step: i32, turn: u64)
     requires { IsIndex (first +ℤ (pos turn *ℤ step)) }
     ensures { cells.new.items ≡ set_at place (Some (index_value (first +ℤ (pos turn *ℤ step)))) cells.old.items }
 {
     if let Some(place) = place {
-        set(cells, place, Value::Index(Index::of(value_in(first, step, turn))));
+        set(
+            cells,
+            place,
+            Value::Index(Index::of(value_in(first, step, turn))),
+        );
     }
 }
 
@@ -422,10 +420,10 @@ fn run_turns(
     Ok(())
 }
 
-/// Runs statements in order.
+/// Runs statements in order, which have no parallel loop.
 #[cycle(run)]
 #[tactic(auto, using(crate::proofs::Turning::runs))]
-fn run_steps(
+pub fn run_steps(
     alloc: Global,
     scene: &Scene,
     cells: &mut Vec<Option<Value>>,

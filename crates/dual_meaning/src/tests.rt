@@ -1,8 +1,10 @@
 use crate::{
-    Cause, Dual, EvalStop, ResolveError, Scene, Value, evaluate, holds, resolve_expression,
-    resolve_test,
+    Cause, Dual, EvalStop, ResolveError, RunError, Scene, Value, evaluate, holds,
+    resolve_expression, resolve_test, run_sequential,
 };
-use fl_ast::{BinOp, Cond, Decl, Expr, Intent, Kind, Memory, Name, Place, Program, RelOp, Stmt};
+use fl_ast::{
+    Arm, BinOp, Cond, Decl, Expr, Intent, Kind, Memory, Name, Place, Program, RelOp, Stmt,
+};
 use fl_base::{Boxed, Items};
 use fl_types::check;
 use ring_core::Ring;
@@ -27,9 +29,9 @@ fn both(alloc: Global, op: BinOp, left: Expr, right: Expr) -> Result<Expr, Memor
     Ok(Expr::Bin { op, left, right })
 }
 
-fn three() -> Expr {
+fn number(value: u64) -> Expr {
     Expr::Lit {
-        value: 3,
+        value,
         kind: Kind::Index,
     }
 }
@@ -37,15 +39,15 @@ fn three() -> Expr {
 /// `x*x + 3*x`
 fn sample(alloc: Global) -> Result<Expr, Memory> {
     let square = both(alloc, BinOp::Mul, get(alloc, b"x")?, get(alloc, b"x")?)?;
-    let triple = both(alloc, BinOp::Mul, three(), get(alloc, b"x")?)?;
+    let triple = both(alloc, BinOp::Mul, number(3), get(alloc, b"x")?)?;
     both(alloc, BinOp::Add, square, triple)
 }
 
-fn scalar(alloc: Global, name: &[u8]) -> Result<Decl, Memory> {
+fn scalar(alloc: Global, name: &[u8], kind: Kind) -> Result<Decl, Memory> {
     Ok(Decl {
         line: 2,
         name: Name::of(alloc, name)?,
-        kind: Kind::Ring,
+        kind,
         intent: Intent::Unsaid,
         dims: Items::new(alloc),
     })
@@ -57,8 +59,8 @@ fn unit(alloc: Global) -> Result<Program, Memory> {
     args.push(Name::of(alloc, b"x")?)?;
     args.push(Name::of(alloc, b"y")?)?;
     let mut decls = Items::new(alloc);
-    decls.push(scalar(alloc, b"x")?)?;
-    decls.push(scalar(alloc, b"y")?)?;
+    decls.push(scalar(alloc, b"x", Kind::Ring)?)?;
+    decls.push(scalar(alloc, b"y", Kind::Ring)?)?;
     let mut body = Items::new(alloc);
     body.push(Stmt::Assign {
         line: 4,
@@ -75,13 +77,27 @@ fn unit(alloc: Global) -> Result<Program, Memory> {
     })
 }
 
-fn scene(alloc: Global) -> Result<Scene, Fail> {
+fn layout(alloc: Global) -> Result<Layout, Fail> {
     let args = Args {
         entries: Items::new(alloc),
     };
     let typed = check(alloc, unit(alloc)?)?;
-    let layout = Layout::of(alloc, &typed, &args)?;
-    Ok(Scene::of(alloc, &layout, typed.program().decls.as_slice())?)
+    Ok(Layout::of(alloc, &typed, &args)?)
+}
+
+/// The declarations of x, y and an index i.
+fn declared(alloc: Global) -> Result<Items<Decl>, Memory> {
+    let mut decls = Items::new(alloc);
+    decls.push(scalar(alloc, b"x", Kind::Ring)?)?;
+    decls.push(scalar(alloc, b"y", Kind::Ring)?)?;
+    decls.push(scalar(alloc, b"i", Kind::Index)?)?;
+    Ok(decls)
+}
+
+fn scene(alloc: Global) -> Result<Scene, Fail> {
+    let layout = layout(alloc)?;
+    let decls = declared(alloc)?;
+    Ok(Scene::of(alloc, &layout, decls.as_slice())?)
 }
 
 fn five() -> Option<Value> {
@@ -103,7 +119,7 @@ fn is_small(alloc: Global) -> Result<bool, Fail> {
     let less = Cond::Rel {
         op: RelOp::Lt,
         left: get(alloc, b"x")?,
-        right: three(),
+        right: number(3),
     };
     let test = resolve_test(alloc, scene.layout(), &less)?;
     Ok(holds(alloc, &scene, &[five(), None], &test)?)
@@ -139,5 +155,120 @@ fn unplaced(rt: HostRuntime) -> Result<(), Fail> {
     let scene = scene(rt.alloc())?;
     let code = resolve_expression(rt.alloc(), scene.layout(), &get(rt.alloc(), b"z")?);
     assert!(rt; matches!(&code, Err(ResolveError::Unplaced)));
+    Ok(())
+}
+
+fn assign(alloc: Global, line: u32, value: Expr) -> Result<Stmt, Memory> {
+    Ok(Stmt::Assign {
+        line,
+        atomic: false,
+        target: place(alloc, b"y")?,
+        value,
+    })
+}
+
+fn one(alloc: Global, stmt: Stmt) -> Result<Items<Stmt>, Memory> {
+    let mut all = Items::new(alloc);
+    all.push(stmt)?;
+    Ok(all)
+}
+
+/// `y = y + x*i`
+fn more(alloc: Global) -> Result<Stmt, Memory> {
+    let times = both(alloc, BinOp::Mul, get(alloc, b"x")?, get(alloc, b"i")?)?;
+    let sum = both(alloc, BinOp::Add, get(alloc, b"y")?, times)?;
+    assign(alloc, 6, sum)
+}
+
+/// `y = x + y`
+fn last(alloc: Global) -> Result<Stmt, Memory> {
+    let sum = both(alloc, BinOp::Add, get(alloc, b"x")?, get(alloc, b"y")?)?;
+    assign(alloc, 8, sum)
+}
+
+/// More where i < 3.
+fn arm(alloc: Global) -> Result<Arm, Memory> {
+    let test = Cond::Rel {
+        op: RelOp::Lt,
+        left: get(alloc, b"i")?,
+        right: number(3),
+    };
+    let body = one(alloc, more(alloc)?)?;
+    Ok(Arm { test, body })
+}
+
+fn choice(alloc: Global) -> Result<Stmt, Memory> {
+    let mut arms = Items::new(alloc);
+    arms.push(arm(alloc)?)?;
+    let other = one(alloc, last(alloc)?)?;
+    Ok(Stmt::If {
+        line: 5,
+        arms,
+        other,
+    })
+}
+
+/// The choice in a loop from 1 to 3 by a step.
+fn counted(alloc: Global, step: u64) -> Result<Stmt, Memory> {
+    let var = Name::of(alloc, b"i")?;
+    let body = one(alloc, choice(alloc)?)?;
+    Ok(Stmt::Do {
+        line: 4,
+        number: 1,
+        directive: None,
+        var,
+        first: number(1),
+        last: number(3),
+        step: Some(number(step)),
+        body,
+    })
+}
+
+/// `y = 0`, and then the loop.
+fn body(alloc: Global, step: u64) -> Result<Items<Stmt>, Memory> {
+    let mut all = one(alloc, assign(alloc, 3, number(0))?)?;
+    all.push(counted(alloc, step)?)?;
+    Ok(all)
+}
+
+/// The content of y after the loop with this step, x being five.
+fn run(alloc: Global, step: u64) -> Result<Result<Option<Value>, RunError>, Fail> {
+    let layout = layout(alloc)?;
+    let decls = declared(alloc)?;
+    let body = body(alloc, step)?;
+    let mut cells = Vec::from_array(alloc, [five(), None, None])?;
+    match run_sequential(
+        alloc,
+        &layout,
+        decls.as_slice(),
+        body.as_slice(),
+        &mut cells,
+    ) {
+        Ok(()) => Ok(Ok(cells[1])),
+        Err(error) => Ok(Err(error)),
+    }
+}
+
+#[test]
+fn statements(rt: HostRuntime) -> Result<(), Fail> {
+    match run(rt.alloc(), 1)?? {
+        Some(Value::Ring(dual)) => {
+            assert_eq!(rt; dual.value.word(), 20);
+            assert_eq!(rt; dual.tangent.word(), 4);
+        }
+        _ => assert!(rt; false),
+    }
+    Ok(())
+}
+
+#[test]
+fn no_step(rt: HostRuntime) -> Result<(), Fail> {
+    match run(rt.alloc(), 0)? {
+        Err(RunError::Trap(trap)) => {
+            assert_eq!(rt; trap.line, 4);
+            assert!(rt; matches!(&trap.cause, Cause::ZeroDivisor));
+        }
+        _ => assert!(rt; false),
+    }
     Ok(())
 }

@@ -1,5 +1,5 @@
 -- Writing words, and reading them again.
-use Rattle.std.proofs.Common.{◌≡◌, IsTrue, ◌↔◌, ℕ, zero, suc, ◌+◌, ◌*◌, ◌-◌, ◌<◌, ◌≤◌, Bool, true, false, cond, List, [], ◌∷◌, ◌++◌, length, take, drop, get_or, slice_get, slice_set, flat_map, replicate, bytes_eq, find, Option, Some, None, option_map, refl, sym, ap, ◌∙◌, subst, arith, add-one, length-append, append_assoc, append-nil}
+use Rattle.std.proofs.Common.{◌≡◌, IsTrue, ◌↔◌, ℕ, zero, suc, ◌+◌, ◌*◌, ◌-◌, ◌<◌, ◌≤◌, Bool, true, false, cond, List, [], ◌∷◌, ◌++◌, length, take, drop, get_or, slice_get, slice_set, replicate, bytes_eq, find, Option, Some, None, option_map, refl, sym, ap, ◌∙◌, subst, arith, add-one, length-append, append_assoc, append-nil}
 use Rattle.std.proofs.lemmas.List.{take-append-drop, drop_more, drop-replicate, length-replicate}
 use Rattle.store_core.specs.declared.layout.Shape.{Shape}
 use Rattle.store_core.specs.declared.values.Entry.{Entry}

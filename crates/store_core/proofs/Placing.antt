@@ -1,5 +1,5 @@
 -- The shapes of declarations that are looked up one after another.
-use Rattle.std.proofs.Common.{◌≡◌, ℕ, ◌+◌, ◌<◌, ◌≤◌, List, [], ◌∷◌, ◌++◌, drop, get_or, length, map, Option, Some, None, Result, Ok, Err, refl, sym, ap, ◌∙◌, subst, ◌^◌}
+use Rattle.std.proofs.Common.{◌≡◌, ℕ, ◌+◌, ◌<◌, List, [], ◌∷◌, drop, get_or, length, map, Option, Some, None, Result, Err, refl, sym, ap, ◌∙◌, subst, ◌^◌}
 use Rattle.std.proofs.lemmas.List.{drop_more, map-append}
 use Rattle.std.specs.List.{filter_map}
 use Rattle.fl_ast.specs.declared.decl.Decl.{Decl}
@@ -9,7 +9,7 @@ use Rattle.store_core.specs.declared.layout.LayoutError.{LayoutError}
 use Rattle.store_core.specs.declared.values.Entry.{Entry}
 use Rattle.store_core.specs.Values.{value_in}
 use Rattle.store_core.specs.Bounds.{shape_of}
-use Rattle.store_core.specs.Keys.{keys_of, laid, laid_all, scalar, with_scalars, LaysWithin}
+use Rattle.store_core.specs.Keys.{laid, laid_all, scalar, with_scalars, LaysWithin}
 use Rattle.store_core.specs.Places.{declaration_of, local_of, laid_some, shapes_of}
 use Rattle.store_core.proofs.Laying.{too_many, laid_all-append}
 

@@ -1,4 +1,4 @@
-use Rattle.std.proofs.Common.{◌≡◌, rules, ap, ◌∙◌, sym, length, Ok}
+use Rattle.std.proofs.Common.{◌≡◌, rules, ap, ◌∙◌, Ok, []}
 use Rattle.dual_meaning.specs.declared.resolved.Code.{the_lemmas as code_lemmas}
 use Rattle.dual_meaning.specs.Codes.{spot_back, slot_name, codes_back}
 use Rattle.dual_meaning.specs.Answers.{located}
@@ -12,4 +12,13 @@ locate-returns t c =
     let b : spot_back s.0 c.args.spot.now ≡ record { name = slot_name s.0 c.args.spot.now.slot; subscripts = codes_back s.0 c.args.spot.now.subscripts } = search (rules, code_lemmas) in
     ap (λ p. (located (scene_site s) c.args.cells.now p).out) b
     ∙ located_at (scene_site s) c.args.cells.now (slot_name s.0 c.args.spot.now.slot) (codes_back s.0 c.args.spot.now.subscripts) c.in_ok-numbers.numbers.items (search (rules, code_lemmas))
+    ∙ ap Ok (search (rules, code_lemmas, place_by_slot))
+
+pub locate-returns-then-is_empty : goal.locate-returns-then-is_empty
+locate-returns-then-is_empty t c =
+    let s = c.args.scene.now in
+    let none : c.args.spot.now.subscripts ≡ [] = search rules in
+    let b : spot_back s.0 c.args.spot.now ≡ record { name = slot_name s.0 c.args.spot.now.slot; subscripts = codes_back s.0 c.args.spot.now.subscripts } = search (rules, code_lemmas) in
+    ap (λ p. (located (scene_site s) c.args.cells.now p).out) b
+    ∙ ap (λ codes. (located (scene_site s) c.args.cells.now (record { name = slot_name s.0 c.args.spot.now.slot; subscripts = codes_back s.0 codes })).out) none
     ∙ ap Ok (search (rules, code_lemmas, place_by_slot))

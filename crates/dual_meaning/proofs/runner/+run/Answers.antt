@@ -1,13 +1,13 @@
-use Rattle.std.proofs.Common.{◌≡◌, rules, add-one, ap, sym, ◌∙◌, subst, true, [], Ok, Err}
+use Rattle.std.proofs.Common.{◌≡◌, rules, add-one, ap, sym, ◌∙◌, subst, true, Ok, Err}
 use Rattle.std.proofs.lemmas.Result.{err_from_is_err_and}
 use Rattle.ring_core.specs.Index.{fits_index}
 use Rattle.std.proofs.lemmas.Bool.{and_parts}
-use Rattle.fl_ast.specs.Tree.{assignment, branch, loop}
+use Rattle.fl_ast.specs.Tree.{assignment}
 use Rattle.dual_meaning.specs.declared.resolved.Step.{the_lemmas as step_lemmas}
 use Rattle.dual_meaning.specs.Scenes.{scene_site}
 use Rattle.dual_meaning.specs.Statements.{one_turn, run, run_all}
 use Rattle.dual_meaning.specs.Codes.{code_back, spot_back, slot_name}
-use Rattle.dual_meaning.specs.Steps.{step_back, steps_back, arms_back, form_in, same_form}
+use Rattle.dual_meaning.specs.Steps.{step_back, steps_back, form_in, same_form}
 use Rattle.dual_meaning.specs.Running.{Ran}
 use Rattle.dual_meaning.proofs.Turning.{assignment_run, turn_run, turns_next, turns_ran, set_is}
 use Rattle.dual_meaning.proofs.Counts.{value_fits, computed}

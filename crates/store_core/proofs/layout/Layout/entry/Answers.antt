@@ -1,4 +1,4 @@
-use Rattle.std.proofs.Common.{◌∙◌, ap, arith, get_or, sym}
+use Rattle.std.proofs.Common.{◌∙◌, ap, get_or}
 use Rattle.store_core.proofs.Filling.{entry_found, entry_missing, empty_is}
 use Rattle.store_core.proofs.layout.Layout.entry.Goals as goal
 

@@ -1,5 +1,5 @@
-use Rattle.std.proofs.Common.{◌≡◌, ◌+◌, get_or, length, take, arith, subst, sym, ◌∙◌}
-use Rattle.store_core.specs.Keys.{keys_of, IsLaidOut}
+use Rattle.std.proofs.Common.{◌+◌, arith, subst, ◌∙◌}
+use Rattle.store_core.specs.Keys.{IsLaidOut}
 use Rattle.store_core.proofs.Slots.{first_small, any_default, first_before}
 use Rattle.store_core.proofs.layout.Layout.next.Goals as goal
 

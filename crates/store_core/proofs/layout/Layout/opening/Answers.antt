@@ -1,4 +1,4 @@
-use Rattle.std.proofs.Common.{◌*◌, ◌∙◌, ap, arith, length, replicate}
+use Rattle.std.proofs.Common.{◌*◌, ◌∙◌, ap, length, replicate}
 use Rattle.std.proofs.lemmas.List.{length-replicate}
 use Rattle.store_core.specs.Filled.{written, place_words}
 use Rattle.store_core.proofs.Filling.{opened, length-written}

@@ -1,5 +1,5 @@
-use Rattle.std.proofs.Common.{◌≡◌, ◌++◌, ◌∷◌, [], ◌≤◌, ◌^◌, length, min, sym, ap, ◌∙◌, arith, subst}
-use Rattle.store_core.specs.Keys.{keys_of, size_of, laid, IsLaidOut}
+use Rattle.std.proofs.Common.{◌++◌, ◌∷◌, [], ◌^◌, min, sym, ap, ◌∙◌, arith, subst}
+use Rattle.store_core.specs.Keys.{size_of, IsLaidOut}
 use Rattle.store_core.proofs.Laying.{laid_over, laid_fits, laid_more, laid_new}
 use Rattle.store_core.proofs.layout.Layout.with_new.Goals as goal
 

@@ -1,0 +1,77 @@
+ghost use Rattle.std.specs.Prelude.{◌≡◌};
+ghost use Rattle.fl_ast.specs.Tree.{stmt_trees};
+ghost use Rattle.dual_meaning.specs.Programs.{RunsSequentially};
+ghost use Rattle.dual_meaning.specs.Running.{of_layout, of_resolving, of_stop};
+
+use crate::resolve::ResolveError;
+use crate::resolve_steps::resolve_statements;
+use crate::runner::{RunStop, run_steps};
+use crate::scene::Scene;
+use crate::value::{TrapAt, Value};
+use fl_ast::{Decl, Stmt};
+use std::alloc::Global;
+use store_core::{Layout, LayoutError};
+
+/// Why statements have not run to their end.
+#[derive(Debug, Drop)]
+pub enum RunError {
+    Trap(TrapAt),
+    /// A name has no place in the layout and no declaration.
+    Unplaced,
+    /// There is a parallel loop among the statements.
+    Parallel,
+    /// There are more than 2^20 names without places.
+    TooManyPlaces,
+    Memory,
+}
+
+impl From<LayoutError> for RunError {
+    ghost from_gives = { λ e r. r ≡ of_layout e };
+
+    fn from(error: LayoutError) -> RunError {
+        match error {
+            LayoutError::TooManyPlaces => RunError::TooManyPlaces,
+            LayoutError::Memory => RunError::Memory,
+        }
+    }
+}
+
+impl From<ResolveError> for RunError {
+    ghost from_gives = { λ e r. r ≡ of_resolving e };
+
+    fn from(error: ResolveError) -> RunError {
+        match error {
+            ResolveError::Unplaced => RunError::Unplaced,
+            ResolveError::Parallel => RunError::Parallel,
+            ResolveError::Memory => RunError::Memory,
+        }
+    }
+}
+
+impl From<RunStop> for RunError {
+    ghost from_gives = { λ e r. r ≡ of_stop e };
+
+    fn from(stop: RunStop) -> RunError {
+        match stop {
+            RunStop::Trap(trap) => RunError::Trap(trap),
+            RunStop::Memory => RunError::Memory,
+        }
+    }
+}
+
+/// Runs statements that have no parallel loop, in order, over the cells of a layout and, after them, of the further
+/// declared names. After an error nothing is said of the cells.
+pub fn run_sequential(
+    alloc: Global,
+    layout: &Layout,
+    decls: &[Decl],
+    body: &[Stmt],
+    cells: &mut Vec<Option<Value>>,
+) -> Result<(), RunError>
+    ensures { RunsSequentially layout.now decls.now (stmt_trees body.now) cells.old.items cells.new.items result }
+{
+    let scene = Scene::of(alloc, layout, decls)?;
+    let steps = resolve_statements(alloc, &scene, body)?;
+    run_steps(alloc, &scene, cells, steps.as_slice())?;
+    Ok(())
+}
