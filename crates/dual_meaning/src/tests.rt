@@ -244,7 +244,7 @@ fn run(alloc: Global, step: u64) -> Result<Result<Option<Value>, RunError>, Fail
         body.as_slice(),
         &mut cells,
     ) {
-        Ok(()) => Ok(Ok(cells[1])),
+        Ok(()) => Ok(Ok(cells.get(1).copied().flatten())),
         Err(error) => Ok(Err(error)),
     }
 }
