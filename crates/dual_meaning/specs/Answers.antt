@@ -6,7 +6,7 @@ use Rattle.dual_meaning.specs.declared.value.Cause.{Cause}
 use Rattle.dual_meaning.specs.Values.{wholes}
 use Rattle.dual_meaning.specs.Logs.{Told, pure, ◌>>=◌}
 use Rattle.dual_meaning.specs.Sites.{Cells, Site, place_of}
-use Rattle.dual_meaning.specs.Expressions.{values_of}
+use Rattle.dual_meaning.specs.Expressions.{values_of, read}
 use Rattle.dual_meaning.specs.declared.evaluator.EvalStop.{EvalStop}
 use Rattle.dual_meaning.specs.declared.evaluator.EvalStop.TheVariants.{Trap, Memory}
 
@@ -30,6 +30,10 @@ numbers_of (Err c) = Err c
 -- the place of an occurrence, None outside the bounds
 abbrev pub located : Site → Cells → Designator → Told Cause (Option ℕ)
 located site cells p = values_of p.subscripts site cells >>= (λ subscripts. pure (place_of site p.name (wholes subscripts)))
+
+-- the value of an occurrence
+abbrev pub read_spot : Site → Cells → Designator → Told Cause Value
+read_spot site cells p = values_of p.subscripts site cells >>= read site cells p.name
 
 -- values that stand before others
 abbrev pub with_front : {A : Type 0} → List A → Result (List A) Cause → Result (List A) Cause

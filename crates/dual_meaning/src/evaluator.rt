@@ -1,8 +1,10 @@
 ghost use Rattle.std.specs.Prelude.{◌≡◌, true, IfOk, Err, length, ◌<◌};
+ghost use Rattle.fl_ast.specs.Tree.{minus, power as power_tree, call as call_tree};
+ghost use Rattle.dual_meaning.specs.Values.{literal_value, binary_result};
 ghost use Rattle.dual_meaning.specs.Expressions.{value_of, values_of, content, read_place, holds as holds_lem};
 ghost use Rattle.dual_meaning.specs.Scenes.{scene_site};
 ghost use Rattle.dual_meaning.specs.Codes.{code_back, codes_back, spot_back, test_back, slot_name, is_within, are_within, is_spot_within, is_test_within};
-ghost use Rattle.dual_meaning.specs.Answers.{Answers, AnswersBy, numbers_of, located};
+ghost use Rattle.dual_meaning.specs.Answers.{Answers, AnswersBy, numbers_of, located, read_spot};
 ghost use Rattle.dual_meaning.specs.declared.value.Cause.TheVariants.{Bounds as bounds, Unset as unset_name};
 ghost use Rattle.dual_meaning.specs.declared.evaluator.EvalStop.TheVariants.{Trap as trap, Memory as memory};
 
@@ -10,7 +12,7 @@ use crate::arithmetic::{binary, called, literal, related};
 use crate::resolved::{Code, Spot, Test};
 use crate::scene::Scene;
 use crate::value::{Cause, Value};
-use fl_ast::{Memory, Name};
+use fl_ast::{BinOp, Fun, Kind, Memory, Name};
 use fl_base::Items;
 use smallvec::SmallVec;
 use std::alloc::{AllocError, AllocFailed, Global};
@@ -54,7 +56,8 @@ impl<T: Drop> From<AllocFailed<T>> for EvalStop {
     }
 }
 
-/// The value of an expression outside of parallel loops, over the cells of a scene.
+/// The value of an expression outside of parallel loops, over the cells of a scene. A call clears all
+/// locals of its function, and this one is called for every operand, so most forms have functions of their own.
 #[cycle(evaluate)]
 pub fn evaluate(
     alloc: Global,
@@ -66,39 +69,99 @@ pub fn evaluate(
     ensures { Answers result (value_of (code_back scene.now.0 code.now) (scene_site scene.now) cells.now).out }
 {
     match code {
-        Code::Lit { word, kind } => Ok(literal(*word, *kind)?),
-        Code::Get(spot) => {
-            let place = locate(alloc, scene, cells, spot)?;
-            read(alloc, scene, cells, spot.slot, place)
-        }
-        Code::Neg(inner) => {
-            let value = evaluate(alloc, scene, cells, inner.get())?;
-            Ok(value.neg()?)
-        }
+        Code::Lit { word, kind } => constant(*word, *kind),
+        Code::Get(spot) => content_of(alloc, scene, cells, spot),
+        Code::Neg(inner) => negation(alloc, scene, cells, inner.get()),
         Code::Bin { op, left, right } => {
             let first = evaluate(alloc, scene, cells, left.get())?;
             let second = evaluate(alloc, scene, cells, right.get())?;
-            Ok(binary(*op, first, second)?)
+            operation(*op, first, second)
         }
-        Code::Pow { base, exponent } => {
-            let value = evaluate(alloc, scene, cells, base.get())?;
-            Ok(value.pow(*exponent)?)
+        Code::Pow { base, exponent } => power(alloc, scene, cells, base.get(), *exponent),
+        Code::Call { fun, args } => call(alloc, scene, cells, *fun, args.as_slice()),
+    }
+}
+
+fn constant(word: u64, kind: Kind) -> Result<Value, EvalStop>
+    ensures { Answers result (literal_value word kind) }
+{
+    Ok(literal(word, kind)?)
+}
+
+#[cycle(evaluate)]
+fn content_of(
+    alloc: Global,
+    scene: &Scene,
+    cells: &[Option<Value>],
+    spot: &Spot,
+) -> Result<Value, EvalStop>
+    requires { is_spot_within (length scene.now.0) spot.now ≡ true }
+    ensures { Answers result (read_spot (scene_site scene.now) cells.now (spot_back scene.now.0 spot.now)).out }
+{
+    let place = locate(alloc, scene, cells, spot)?;
+    read(alloc, scene, cells, spot.slot, place)
+}
+
+#[cycle(evaluate)]
+fn negation(
+    alloc: Global,
+    scene: &Scene,
+    cells: &[Option<Value>],
+    inner: &Code,
+) -> Result<Value, EvalStop>
+    requires { is_within (length scene.now.0) inner.now ≡ true }
+    ensures { Answers result (value_of (minus (code_back scene.now.0 inner.now)) (scene_site scene.now) cells.now).out }
+{
+    let value = evaluate(alloc, scene, cells, inner)?;
+    Ok(value.neg()?)
+}
+
+fn operation(op: BinOp, first: Value, second: Value) -> Result<Value, EvalStop>
+    ensures { Answers result (binary_result op first second) }
+{
+    Ok(binary(op, first, second)?)
+}
+
+#[cycle(evaluate)]
+fn power(
+    alloc: Global,
+    scene: &Scene,
+    cells: &[Option<Value>],
+    base: &Code,
+    exponent: u32,
+) -> Result<Value, EvalStop>
+    requires { is_within (length scene.now.0) base.now ≡ true }
+    ensures { Answers result (value_of (power_tree (code_back scene.now.0 base.now) exponent) (scene_site scene.now) cells.now).out }
+{
+    let value = evaluate(alloc, scene, cells, base)?;
+    Ok(value.pow(exponent)?)
+}
+
+#[cycle(evaluate)]
+fn call(
+    alloc: Global,
+    scene: &Scene,
+    cells: &[Option<Value>],
+    fun: Fun,
+    args: &[Code],
+) -> Result<Value, EvalStop>
+    requires { are_within (length scene.now.0) args.now ≡ true }
+    ensures { Answers result (value_of (call_tree fun (codes_back scene.now.0 args.now)) (scene_site scene.now) cells.now).out }
+{
+    match args {
+        [only] => {
+            let value = evaluate(alloc, scene, cells, only)?;
+            Ok(called(fun, &[value])?)
         }
-        Code::Call { fun, args } => match args.as_slice() {
-            [only] => {
-                let value = evaluate(alloc, scene, cells, only)?;
-                Ok(called(*fun, &[value])?)
-            }
-            [left, right] => {
-                let first = evaluate(alloc, scene, cells, left)?;
-                let second = evaluate(alloc, scene, cells, right)?;
-                Ok(called(*fun, &[first, second])?)
-            }
-            others => {
-                let values = evaluate_all(alloc, scene, cells, others)?;
-                Ok(called(*fun, values.as_slice())?)
-            }
-        },
+        [left, right] => {
+            let first = evaluate(alloc, scene, cells, left)?;
+            let second = evaluate(alloc, scene, cells, right)?;
+            Ok(called(fun, &[first, second])?)
+        }
+        others => {
+            let values = evaluate_all(alloc, scene, cells, others)?;
+            Ok(called(fun, values.as_slice())?)
+        }
     }
 }
 
@@ -152,8 +215,23 @@ pub(crate) fn locate(
     ensures { Answers result (located (scene_site scene.now) cells.now (spot_back scene.now.0 spot.now)).out }
 {
     if spot.subscripts.is_empty() {
-        return Ok(scene.layout().place_in(spot.slot, &[]));
+        Ok(scene.layout().place_in(spot.slot, &[]))
+    } else {
+        locate_element(alloc, scene, cells, spot)
     }
+}
+
+/// The same, however many subscripts there are.
+#[cycle(evaluate)]
+fn locate_element(
+    alloc: Global,
+    scene: &Scene,
+    cells: &[Option<Value>],
+    spot: &Spot,
+) -> Result<Option<u32>, EvalStop>
+    requires { is_spot_within (length scene.now.0) spot.now ≡ true }
+    ensures { Answers result (located (scene_site scene.now) cells.now (spot_back scene.now.0 spot.now)).out }
+{
     let numbers = evaluate_subscripts(alloc, scene, cells, spot.subscripts.as_slice())?;
     Ok(scene.layout().place_in(spot.slot, numbers.as_slice()))
 }

@@ -6,8 +6,8 @@ use Rattle.dual_meaning.specs.Scenes.{scene_site}
 use Rattle.dual_meaning.proofs.Located.{place_by_slot, located_at}
 use Rattle.dual_meaning.proofs.evaluator.+evaluate.Goals as goal
 
-pub locate-returns : goal.locate-returns
-locate-returns t c =
+pub locate_element-returns : goal.locate_element-returns
+locate_element-returns t c =
     let s = c.args.scene.now in
     let b : spot_back s.0 c.args.spot.now ≡ record { name = slot_name s.0 c.args.spot.now.slot; subscripts = codes_back s.0 c.args.spot.now.subscripts } = search (rules, code_lemmas) in
     ap (λ p. (located (scene_site s) c.args.cells.now p).out) b
