@@ -17,8 +17,8 @@ upper = record { first = record { first = Scalar (codes "n"); second = None }; r
 -- integer :: n, and integer(kind=8) :: x(n)
 abbrev decls : List Decl
 decls =
-    record { line = 2; name = codes "n"; kind = Index; intent = Unsaid; dims = [] }
-    ∷ record { line = 3; name = codes "x"; kind = Ring; intent = Unsaid; dims = record { lower = None; upper = upper } ∷ [] }
+    record { line = 2; name = codes "n"; kind = Index; bytes = 4; intent = Unsaid; dims = [] }
+    ∷ record { line = 3; name = codes "x"; kind = Ring; bytes = 8; intent = Unsaid; dims = record { lower = None; upper = upper } ∷ [] }
     ∷ []
 
 -- both names are text, which antt doesn't compute

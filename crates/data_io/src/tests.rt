@@ -11,6 +11,7 @@ fn ring_scalar(alloc: Global, name: &[u8]) -> Result<Decl, Fail> {
         line: 2,
         name: Name::of(alloc, name)?,
         kind: Kind::Ring,
+        bytes: 8,
         intent: Intent::Unsaid,
         dims: Items::new(alloc),
     })

@@ -16,10 +16,10 @@ use Rattle.dual_meaning.specs.declared.value.Value.{Value}
 use Rattle.dual_meaning.specs.declared.value.Value.TheVariants.{Ring}
 use Rattle.dual_meaning.specs.declared.value.Cause.{Cause}
 use Rattle.dual_meaning.specs.Values.{dual_add, dual_sub, as_dual, wholes}
-use Rattle.dual_meaning.specs.Logs.{Log, Told, pure, joined, ◌>>=◌}
+use Rattle.dual_meaning.specs.Logs.{Log, Told, pure, joined, ◌>>=◌, inside, right_side}
 use Rattle.dual_meaning.specs.Sites.{Cells, Site, place_of}
 use Rattle.dual_meaning.specs.Expressions.{content, value_of, values_of}
-use Rattle.dual_meaning.specs.Statements.{plain, put, terms_of, grown, grow_cell, grow, increment, assigned}
+use Rattle.dual_meaning.specs.Statements.{stored, plain, put, terms_of, grown, grow_cell, grow, increment, assigned}
 use Rattle.dual_meaning.specs.Scenes.{Names, scene_site, is_ring_in}
 use Rattle.dual_meaning.specs.Steps.{form_in, same_form}
 use Rattle.dual_meaning.specs.Answers.{located}
@@ -249,7 +249,7 @@ grow_cell_is : (site : Site) (cells : Cells) (x : List ℕ) (kind : AccessKind) 
     → (grow_cell_by cells x d p o).out ≡ (grow_cell site cells x kind ds p o).out
 grow_cell_is site cells x kind ds d p None h = refl
 grow_cell_is site cells x kind ds d p (Some v) h =
-    sym (touching_out site x p kind (pure (slice_set cells p (Some (Ring (grown ds (as_dual v)))))) ∙ ap (λ g. Ok (slice_set cells p (Some (Ring g)))) (h (as_dual v)))
+    sym (touching_out site x p kind (stored cells p (Ring (grown ds (as_dual v)))) ∙ ap (λ g. Ok (slice_set cells p (Some (Ring g)))) (h (as_dual v)))
 
 grow_is : (site : Site) (cells : Cells) (x : List ℕ) (kind : AccessKind) (ds : List (Bool × Dual)) (d : Dual) (o : Option ℕ) → IsSum ds d
     → (grow_at cells x d o).out ≡ (grow site cells x kind ds o).out
@@ -290,7 +290,7 @@ chain_is : (site : Site) (cells : Cells) (p : Designator) (e : Expression) (rs :
 chain_is site cells p e rs kind h =
     out_then (chain_sum e site cells) _ ∙ ap (λ o. next o (λ d. (grow_by site cells p d).out)) (sum_is site cells p.name p.subscripts e rs h)
     ∙ by_terms site cells p kind (terms_of rs site cells).out (λ ds g. terms_sum site cells rs ds (chain_more (target_of p) e rs h) g)
-    ∙ sym (out_then (terms_of rs site cells) _)
+    ∙ sym (out_then (inside (right_side p.name) (terms_of rs site cells)) _)
 
 by_value : (site : Site) (cells : Cells) (p : Designator) (kind : AccessKind) (q : Result Value Cause)
     → next q (λ v. (grow_by site cells p (as_dual v)).out)
@@ -308,7 +308,7 @@ sum_form site cells p (binary Add r b) rs kind h = by_test (same_expression (tar
         out_then (value_of r site cells) _ ∙ by_value site cells p kind (value_of r site cells).out
         ∙ ap (λ o. next o (λ ds. (values_of p.subscripts site cells >>= (λ vs. grow site cells p.name kind ds (place_of site p.name (wholes vs)))).out))
         (sym (terms_one site cells (false, r) (value_of r site cells).log (value_of r site cells).out))
-        ∙ sym (out_then (terms_of ((false, r) ∷ []) site cells) _) ∙ ap (λ (qs : List Signed). (increment site cells p qs kind).out) f
+        ∙ sym (out_then (inside (right_side p.name) (terms_of ((false, r) ∷ []) site cells)) _) ∙ ap (λ (qs : List Signed). (increment site cells p qs kind).out) f
     by_test false g = absurd (cc)
 sum_form site cells p (binary Sub a b) rs kind h = absurd (cc)
 sum_form site cells p (binary Mul a b) rs kind h = absurd (cc)
@@ -323,7 +323,7 @@ plain_is : (site : Site) (cells : Cells) (p : Designator) (e : Expression) → (
 plain_is site cells p e =
     out_then (value_of e site cells) _
     ∙ next_same (value_of e site cells).out _ _ (λ v. located_then site cells p (put site cells p.name v) ∙ sym (out_then (values_of p.subscripts site cells) (λ vs. put site cells p.name v (place_of site p.name (wholes vs)))))
-    ∙ sym (out_then (value_of e site cells) _)
+    ∙ sym (out_then (inside (right_side p.name) (value_of e site cells)) _)
 
 free_inner : (x : List ℕ) (o : Option (List Signed)) (rs : List Signed) → if_free x o ≡ Some rs → o ≡ Some rs
 free_inner x None rs e = absurd (cc)

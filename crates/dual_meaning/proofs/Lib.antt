@@ -18,3 +18,13 @@ mod Lines
 mod Loops
 mod Sums
 mod Mixed
+mod Outer
+pub mod Replays
+mod Stores
+mod Collapsed
+pub mod Reducing
+mod Bytes
+pub mod Widely
+pub mod Traced
+pub mod Everywhere
+pub mod Once

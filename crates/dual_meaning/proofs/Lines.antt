@@ -7,11 +7,11 @@ use Rattle.dual_meaning.specs.declared.value.Cause.TheVariants.{Range}
 use Rattle.dual_meaning.specs.Logs.{events, begins, pushes}
 use Rattle.dual_meaning.specs.Sites.{Site, opening_site}
 use Rattle.dual_meaning.specs.Statements.{run_all}
-use Rattle.dual_meaning.specs.Stops.{first_stop, trapped}
+use Rattle.dual_meaning.specs.Stops.{by_conflict, the_limits, first_stop, trapped}
 use Rattle.dual_meaning.specs.Adjoints.{adjoint_at}
 use Rattle.dual_meaning.specs.Programs.{meaning, adjoint_of, entry_cells}
 use Rattle.dual_meaning.specs.declared.value.Value.TheVariants.{Ring}
-use Rattle.dual_meaning.proofs.Small.{declared, scalar, word, number, one, name, to, ◌plus◌, ◌times◌, only, set, all_pushed, limits}
+use Rattle.dual_meaning.proofs.Small.{declared, scalar, word, number, one, name, to, ◌plus◌, ◌times◌, only, set, all_pushed}
 
 abbrev x : List ℕ
 x = codes "x"
@@ -65,7 +65,7 @@ over_site =
     opening_site (declared kind.Index n ∷ declared kind.Index k ∷ declared kind.Ring x ∷ []) (scalar n ∷ scalar x ∷ scalar k ∷ []) all_pushed
 
 pub over_stop :
-    first_stop limits (events (run_all over over_site (number 2147483647 ∷ word 1 ∷ None ∷ [])).log)
+    first_stop by_conflict the_limits (events (run_all over over_site (number 2147483647 ∷ word 1 ∷ None ∷ [])).log)
     ≡ trapped (record { line = 4; cause = Range })
 unfolding fitted
 over_stop = refl

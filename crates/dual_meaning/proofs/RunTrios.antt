@@ -1,22 +1,23 @@
 -- The same of statements.
-use Rattle.std.specs.Prelude.{◌≡◌, ℕ, zero, suc, ◌+◌, ℤ, Bool, true, false, if◌then◌else◌, List, [], ◌∷◌, Option, Some, None, Result, Ok, Err, refl, slice_set}
+use Rattle.std.specs.Prelude.{◌≡◌, ℕ, zero, suc, ◌+◌, ◌/◌, ◌%◌, ℤ, Bool, true, false, if◌then◌else◌, List, [], ◌∷◌, Option, Some, None, Result, Ok, Err, refl, slice_set}
 use Rattle.fl_ast.specs.declared.kind.Kind.{Kind}
 use Rattle.fl_ast.specs.declared.kind.Kind.TheVariants as kind
 use Rattle.fl_ast.specs.declared.directive.Directive.{Directive}
 use Rattle.fl_ast.specs.Tree.{Expression, Designator, Statement, assignment, branch, loop, Statements, no_statements, statement, Arms, no_arms, arm}
 use Rattle.fl_types.specs.declared.access.AccessKind.{AccessKind}
 use Rattle.fl_types.specs.declared.access.AccessKind.TheVariants.{Write}
+use Rattle.fl_types.specs.Nests.{Head, is_nest, further_head}
 use Rattle.fl_types.specs.Increment.{Signed, increment_terms}
 use Rattle.dual_meaning.specs.declared.value.Dual.{Dual}
 use Rattle.dual_meaning.specs.declared.value.Value.{Value}
 use Rattle.dual_meaning.specs.declared.value.Value.TheVariants.{Index, Ring}
 use Rattle.dual_meaning.specs.declared.value.Cause.{Cause}
 use Rattle.dual_meaning.specs.declared.value.Turns.{Turns}
-use Rattle.dual_meaning.specs.Values.{dual_add, dual_sub, converted, wholes}
-use Rattle.dual_meaning.specs.Logs.{Log, single, pushes, instance, turn, iteration, condition, taken, Passage, Told, after, inside, at_line, at_line_by}
+use Rattle.dual_meaning.specs.Values.{dual_add, dual_sub, as_dual, converted, wholes}
+use Rattle.dual_meaning.specs.Logs.{Log, single, pushes, instance, right_side, rounds, turn, iteration, condition, taken, Passage, Told, after, inside, at_line, at_line_by}
 use Rattle.dual_meaning.specs.Sites.{Cells, Site, in_turn, in_iteration, place_of, kind_of, word_of}
 use Rattle.dual_meaning.specs.Expressions.{content, value_of, values_of}
-use Rattle.dual_meaning.specs.Statements.{Run, noted, set_log, stored, saving, put, plain, terms_of, grown, grow_cell, grow, increment, assigned, turns_by, step_value, turns_of, value_at, set_at, setting, turns, private_names, unset_all, content_at, private_words, one_turn, one_iteration, run_loop, chosen, in_arm, run, run_all, run_arms}
+use Rattle.dual_meaning.specs.Statements.{Run, noted, set_log, stored, saving, put, plain, terms_of, grown, grow_cell, grow, increment, assigned, turns_by, step_value, turns_of, value_at, set_at, setting, turns, private_names, unset_all, unset_log, content_at, private_words, one_turn, Heads, iterations, setting_all, further_turns, heads_of, one_iteration, run_turns, run_parallel, chosen, in_arm, run, run_all, run_inner, run_within, run_arms}
 use Rattle.dual_meaning.proofs.Trios.{Closed, Duals, Trio, Trios, Outs, Tells, Equals, TrioCell, TrioCells, bind, pured, dual_trio, add_duals, sub_duals, whole_trio, wholes_trio, content_trio, touching_trio, value_trio, values_trio, holds_trio}
 
 -- a run that tells three times the same
@@ -48,9 +49,9 @@ noted_trio R l c d e h = record { second = refl; third = refl; out = h }
 
 -- ---- assignments
 
-set_log_trio : (R : ℕ → ℕ → ℕ → Type 0) (p : ℕ) (v w u : Value) → Trio R v w u → (set_log p w ≡ set_log p v) × (set_log p u ≡ set_log p v)
+set_log_trio : (R : ℕ → ℕ → ℕ → Type 0) (p : ℕ) (v w u : Value) → Trio R v w u → (set_log p (Some w) ≡ set_log p (Some v)) × (set_log p (Some u) ≡ set_log p (Some v))
 set_log_trio R p (Index x) (Index y) (Index z) h = (rw h.0 refl, rw h.1 refl)
-set_log_trio R p (Ring a) (Ring b) (Ring c) h = (refl, refl)
+set_log_trio R p (Ring a) (Ring b) (Ring c) h = (rw h.second refl, rw h.third refl)
 set_log_trio R p _ _ _ h = absurd h
 
 word_trio : (R : ℕ → ℕ → ℕ → Type 0) (v w u : Value) → Trio R v w u → (word_of (Some w) ≡ word_of (Some v)) × (word_of (Some u) ≡ word_of (Some v))
@@ -69,7 +70,7 @@ converted_trio R k kind.Index v w u h = h
 
 stored_trio : (R : ℕ → ℕ → ℕ → Type 0) (c d e : Cells) (p : ℕ) (v w u : Value) → TrioCells R c d e → Trio R v w u → Tells (TrioCells R) (stored c p v) (stored d p w) (stored e p u)
 stored_trio R c d e p v w u h g =
-    let q : (set_log p w ≡ set_log p v) × (set_log p u ≡ set_log p v) = set_log_trio R p v w u g in
+    let q : (set_log p (Some w) ≡ set_log p (Some v)) × (set_log p (Some u) ≡ set_log p (Some v)) = set_log_trio R p v w u g in
     record { second = q.0; third = q.1; out = set_trio R c d e p (Some v) (Some w) (Some u) h g }
 
 saving_trio : (R : ℕ → ℕ → ℕ → Type 0) (site : Site) (x : List ℕ) (v w u : Option Value) (s t r : Told Cause Cells) → TrioCell R v w u → Tells (TrioCells R) s t r
@@ -93,7 +94,7 @@ put_trio R k site c d e x v w u (Some p) h g =
 
 plain_trio : (R : ℕ → ℕ → ℕ → Type 0) → Closed R → (site : Site) (p : Designator) (a : Expression) (c d e : Cells) → TrioCells R c d e → Tells (TrioCells R) (plain site c p a) (plain site d p a) (plain site e p a)
 plain_trio R k site p a c d e h =
-    bind (Trio R) (TrioCells R) (value_of a site c) (value_of a site d) (value_of a site e) _ _ _ (value_trio R k a site c d e h)
+    bind (Trio R) (TrioCells R) (inside (right_side p.name) (value_of a site c)) (inside (right_side p.name) (value_of a site d)) (inside (right_side p.name) (value_of a site e)) _ _ _ (inside_trio (Trio R) (right_side p.name) _ _ _ (value_trio R k a site c d e h))
     (λ v w u g. bind (Trios R) (TrioCells R) (values_of p.subscripts site c) (values_of p.subscripts site d) (values_of p.subscripts site e) _ _ _ (values_trio R k p.subscripts site c d e h)
     (λ vs ws us gs. at_subscripts v w u g vs ws us (wholes_trio R vs ws us gs)))
   where
@@ -129,7 +130,7 @@ grow_cell_trio : (R : ℕ → ℕ → ℕ → Type 0) → Closed R → (site : S
 grow_cell_trio R k site c d e x n rs ss ts p None None None h g o = record { second = refl; third = refl; out = (refl, refl) }
 grow_cell_trio R k site c d e x n rs ss ts p (Some v) (Some w) (Some u) h g o =
     touching_trio (TrioCells R) site x p n _ _ _
-    (pured (TrioCells R) _ _ _ (set_trio R c d e p _ _ _ h (grown_trio R k rs ss ts _ _ _ g (dual_trio R k v w u o))))
+    (stored_trio R c d e p (Ring (grown rs (as_dual v))) (Ring (grown ss (as_dual w))) (Ring (grown ts (as_dual u))) h (grown_trio R k rs ss ts _ _ _ g (dual_trio R k v w u o)))
 grow_cell_trio R k site c d e x n rs ss ts p _ _ _ h g o = absurd o
 
 grow_trio : (R : ℕ → ℕ → ℕ → Type 0) → Closed R → (site : Site) (c d e : Cells) (x : List ℕ) (n : AccessKind) (rs ss ts : List (Bool × Dual)) (o : Option ℕ)
@@ -141,7 +142,7 @@ grow_trio R k site c d e x n rs ss ts (Some p) h g =
 increment_trio : (R : ℕ → ℕ → ℕ → Type 0) → Closed R → (site : Site) (p : Designator) (rest : List Signed) (n : AccessKind) (c d e : Cells) → TrioCells R c d e
     → Tells (TrioCells R) (increment site c p rest n) (increment site d p rest n) (increment site e p rest n)
 increment_trio R k site p rest n c d e h =
-    bind (TrioTerms R) (TrioCells R) (terms_of rest site c) (terms_of rest site d) (terms_of rest site e) _ _ _ (terms_trio R k rest site c d e h)
+    bind (TrioTerms R) (TrioCells R) (inside (right_side p.name) (terms_of rest site c)) (inside (right_side p.name) (terms_of rest site d)) (inside (right_side p.name) (terms_of rest site e)) _ _ _ (inside_trio (TrioTerms R) (right_side p.name) _ _ _ (terms_trio R k rest site c d e h))
     (λ rs ss ts g. bind (Trios R) (TrioCells R) (values_of p.subscripts site c) (values_of p.subscripts site d) (values_of p.subscripts site e) _ _ _ (values_trio R k p.subscripts site c d e h)
     (λ vs ws us gs. at_subscripts rs ss ts g vs ws us (wholes_trio R vs ws us gs)))
   where
@@ -217,19 +218,44 @@ private_noted_trio R site body xs c d e h =
 one_turn_trio : (R : ℕ → ℕ → ℕ → Type 0) (site : Site) (var : List ℕ) (t : Turns) (body : Site → Run) → ((s : Site) → Steady R (body s)) → (i : ℕ) → Steady R (one_turn site var t body i)
 one_turn_trio R site var t body k i c d e h = inside_trio (TrioCells R) (turn i) _ _ _ (setting_trio R site var (value_at t i) (body (in_turn site var)) (k (in_turn site var)) c d e h)
 
-one_iteration_trio : (R : ℕ → ℕ → ℕ → Type 0) (site : Site) (directive : Directive) (var : List ℕ) (t : Turns) (tree : Statements) (body : Site → Run) → ((s : Site) → Steady R (body s)) → (i : ℕ) → Steady R (one_iteration site directive var t tree body i)
+setting_all_trio : (R : ℕ → ℕ → ℕ → Type 0) (site : Site) (hs : Heads) (i : ℕ) (f : Run) → Steady R f → Steady R (setting_all site hs i f)
+setting_all_trio R site [] i f k c d e h = k c d e h
+setting_all_trio R site (x ∷ []) i f k c d e h = setting_trio R site x.0 (value_at x.1 i) f k c d e h
+setting_all_trio R site (x ∷ y ∷ hs) i f k c d e h =
+    setting_trio R site x.0 (value_at x.1 (i / iterations (y ∷ hs))) (setting_all site (y ∷ hs) (i % iterations (y ∷ hs)) f)
+    (setting_all_trio R site (y ∷ hs) (i % iterations (y ∷ hs)) f k) c d e h
+
+further_trio : (R : ℕ → ℕ → ℕ → Type 0) → Closed R → (o : Option Head) (site : Site) (c d e : Cells) → TrioCells R c d e → Tells Equals (further_turns o site c) (further_turns o site d) (further_turns o site e)
+further_trio R k None site c d e h = pured Equals [] [] [] (refl, refl)
+further_trio R k (Some x) site c d e h =
+    bind Equals Equals _ _ _ _ _ _ (line_trio Equals x.line _ _ _ (turns_of_trio R k x.first x.last x.step site c d e h))
+    (λ t u v o. rw (o.0, o.1) (pured Equals ((x.var, t) ∷ []) ((x.var, t) ∷ []) ((x.var, t) ∷ []) (refl, refl)))
+
+heads_trio : (R : ℕ → ℕ → ℕ → Type 0) → Closed R → (x : Head) (o : Option Head) (site : Site) (c d e : Cells) → TrioCells R c d e → Tells Equals (heads_of x o site c) (heads_of x o site d) (heads_of x o site e)
+heads_trio R k x o site c d e h =
+    bind Equals Equals _ _ _ _ _ _ (line_trio Equals x.line _ _ _ (turns_of_trio R k x.first x.last x.step site c d e h))
+    (λ t u v p. rw (p.0, p.1) (bind Equals Equals _ _ _ _ _ _ (further_trio R k o site c d e h)
+    (λ a b g q. rw (q.0, q.1) (pured Equals ((x.var, t) ∷ a) ((x.var, t) ∷ a) ((x.var, t) ∷ a) (refl, refl)))))
+
+one_iteration_trio : (R : ℕ → ℕ → ℕ → Type 0) (site : Site) (directive : Directive) (var : List ℕ) (t : Heads) (tree : Statements) (body : Site → Run) → ((s : Site) → Steady R (body s)) → (i : ℕ) → Steady R (one_iteration site directive var t tree body i)
 one_iteration_trio R site directive var t tree body k i c d e h =
     let names : List (List ℕ) = private_names site directive var tree in
     inside_trio (TrioCells R) (iteration i) _ _ _
     (bind (TrioCells R) (TrioCells R) _ _ _ _ _ _
-    (setting_trio R site var (value_at t i) (body (in_iteration site directive var tree i)) (k (in_iteration site directive var tree i)) _ _ _ (unset_trio R site names c d e h))
+    (after_trio (TrioCells R) (unset_log site names) _ _ _
+    (setting_all_trio R site t i (body (in_iteration site directive var tree)) (k (in_iteration site directive var tree)) _ _ _ (unset_trio R site names c d e h)))
     (λ a b g o. private_noted_trio R site tree names a b g o))
 
-run_loop_trio : (R : ℕ → ℕ → ℕ → Type 0) (line : ℕ) (o : Option Directive) (var : List ℕ) (tree : Statements) (body : Site → Run) → ((s : Site) → Steady R (body s)) → (site : Site) (t : Turns) → Steady R (run_loop line o var tree body site t)
-run_loop_trio R line None var tree body k site t c d e h =
+run_turns_trio : (R : ℕ → ℕ → ℕ → Type 0) (var : List ℕ) (body : Site → Run) → ((s : Site) → Steady R (body s)) → (site : Site) (t : Turns) → Steady R (run_turns var body site t)
+run_turns_trio R var body k site t c d e h =
     bind (TrioCells R) (TrioCells R) _ _ _ _ _ _ (turns_trio R t.count (one_turn site var t body) (one_turn_trio R site var t body k) c d e h) (λ a b g o. noted_trio R _ a b g o)
-run_loop_trio R line (Some directive) var tree body k site t c d e h =
-    bind (TrioCells R) (TrioCells R) _ _ _ _ _ _ (turns_trio R t.count (one_iteration site directive var t tree body) (one_iteration_trio R site directive var t tree body k) c d e h) (λ a b g o. noted_trio R _ a b g o)
+
+run_parallel_trio : (R : ℕ → ℕ → ℕ → Type 0) (line : ℕ) (directive : Directive) (var : List ℕ) (tree : Statements) (body : Site → Run) → ((s : Site) → Steady R (body s)) → (site : Site) (hs : Heads)
+    → Steady R (run_parallel line directive var tree body site hs)
+run_parallel_trio R line directive var tree body k site hs c d e h =
+    bind (TrioCells R) (TrioCells R) _ _ _ _ _ _
+    (inside_trio (TrioCells R) rounds _ _ _ (turns_trio R (iterations hs) (one_iteration site directive var hs tree body) (one_iteration_trio R site directive var hs tree body k) c d e h))
+    (λ a b g o. noted_trio R _ a b g o)
 
 -- ---- statements
 
@@ -241,6 +267,10 @@ chosen_trio R p q r f g o k l c d e h = rw (o.0, o.1) (by_test p)
     by_test true = k c d e h
     by_test false = l c d e h
 
+either_steady : (R : ℕ → ℕ → ℕ → Type 0) (b : Bool) (f g : Site → Run) → ((s : Site) → Steady R (f s)) → ((s : Site) → Steady R (g s)) → (s : Site) → Steady R ((if b then f else g) s)
+either_steady R true f g k l s = k s
+either_steady R false f g k l s = l s
+
 in_arm_trio : (R : ℕ → ℕ → ℕ → Type 0) (m : ℕ) (f : Run) → Steady R f → Steady R (in_arm m f)
 in_arm_trio R m f k c d e h = inside_trio (TrioCells R) (taken m) _ _ _ (bind (TrioCells R) (TrioCells R) _ _ _ _ _ _ (k c d e h) (λ a b g o. noted_trio R _ a b g o))
 
@@ -250,15 +280,29 @@ mutual
       inside_trio (TrioCells R) instance _ _ _ (line_trio (TrioCells R) line _ _ _ (assigned_trio R k site atomic p a (increment_terms site.ring p a) c d e h))
   run_trio R k (branch line arms other) site c d e h =
       inside_trio (TrioCells R) instance _ _ _ (arms_trio R k arms line 0 (run_all other) (λ s. run_all_trio R k other s) site c d e h)
-  run_trio R k (loop line number directive var first last step body) site c d e h =
+  run_trio R k (loop line number None var first last step body) site c d e h =
       inside_trio (TrioCells R) instance _ _ _
       (bind Equals (TrioCells R) _ _ _ _ _ _ (line_trio Equals line _ _ _ (turns_of_trio R k first last step site c d e h))
-      (λ t u v o. rw (o.0, o.1) (run_loop_trio R line directive var body (run_all body) (λ s. run_all_trio R k body s) site t c d e h)))
+      (λ t u v o. rw (o.0, o.1) (run_turns_trio R var (run_all body) (λ s. run_all_trio R k body s) site t c d e h)))
+  run_trio R k (loop line number (Some directive) var first last step body) site c d e h =
+      inside_trio (TrioCells R) instance _ _ _
+      (bind Equals (TrioCells R) _ _ _ _ _ _ (heads_trio R k (record { line = line; var = var; first = first; last = last; step = step }) (further_head directive body) site c d e h)
+      (λ t u v o. rw (o.0, o.1) (run_parallel_trio R line directive var body (if is_nest directive body then run_inner body else run_all body)
+      (either_steady R (is_nest directive body) (run_inner body) (run_all body) (λ s. run_inner_trio R k body s) (λ s. run_all_trio R k body s)) site t c d e h)))
 
   pub run_all_trio : (R : ℕ → ℕ → ℕ → Type 0) → Closed R → (ss : Statements) (site : Site) → Steady R (run_all ss site)
   run_all_trio R k no_statements site c d e h = pured (TrioCells R) c d e h
   run_all_trio R k (statement s ss) site c d e h =
       bind (TrioCells R) (TrioCells R) (run s site c) (run s site d) (run s site e) _ _ _ (run_trio R k s site c d e h) (λ a b g o. run_all_trio R k ss site a b g o)
+
+  run_inner_trio : (R : ℕ → ℕ → ℕ → Type 0) → Closed R → (ss : Statements) (site : Site) → Steady R (run_inner ss site)
+  run_inner_trio R k no_statements site c d e h = pured (TrioCells R) c d e h
+  run_inner_trio R k (statement s ss) site c d e h = run_within_trio R k s site c d e h
+
+  run_within_trio : (R : ℕ → ℕ → ℕ → Type 0) → Closed R → (s : Statement) (site : Site) → Steady R (run_within s site)
+  run_within_trio R k (assignment line atomic p a) site c d e h = pured (TrioCells R) c d e h
+  run_within_trio R k (branch line arms other) site c d e h = pured (TrioCells R) c d e h
+  run_within_trio R k (loop line number directive var first last step body) site c d e h = run_all_trio R k body site c d e h
 
   pub arms_trio : (R : ℕ → ℕ → ℕ → Type 0) → Closed R → (arms : Arms) (line m : ℕ) (other : Site → Run) → ((s : Site) → Steady R (other s)) → (site : Site) → Steady R (run_arms arms line m other site)
   arms_trio R k no_arms line m other l site c d e h = in_arm_trio R m (other site) (l site) c d e h

@@ -11,7 +11,7 @@ use Rattle.dual_meaning.specs.declared.value.TrapAt.{TrapAt}
 use Rattle.dual_meaning.specs.declared.value.Turns.{Turns}
 use Rattle.dual_meaning.specs.Logs.{Log, single, pushes, Told, ◌>>=◌, at_line}
 use Rattle.dual_meaning.specs.Sites.{Cells, Site, in_turn}
-use Rattle.dual_meaning.specs.Statements.{Run, noted, assigned, turns_of, value_at, set_at, turns, one_turn, loop_words, run_loop, in_arm, run, run_all}
+use Rattle.dual_meaning.specs.Statements.{Run, noted, assigned, turns_of, value_at, set_at, turns, one_turn, loop_words, run_turns, in_arm, run, run_all}
 use Rattle.dual_meaning.specs.Sequential.{are_sequential}
 use Rattle.dual_meaning.specs.Scenes.{Names, scene_site, is_ring_in}
 use Rattle.dual_meaning.specs.Codes.{slot_name}
@@ -47,7 +47,7 @@ pub loop_run : (line number : ℕ) (var : List ℕ) (first last : Expression) (s
     → (run (loop line number None var first last step body) site cells).out ≡ (turns t.count (one_turn site var t (run_all body)) cells).out
 loop_run line number var first last step body site cells t e =
     out_then (at_line line (turns_of first last step site cells)) _
-    ∙ ap (λ o. next o (λ u. (run_loop line None var body (run_all body) site u cells).out)) e
+    ∙ ap (λ o. next o (λ u. (run_turns var (run_all body) site u cells).out)) e
     ∙ noted_out (turns t.count (one_turn site var t (run_all body)) cells) (loop_words t)
 
 pub loop_stop : (line number : ℕ) (var : List ℕ) (first last : Expression) (step : Option Expression) (body : Statements) (site : Site) (cells : Cells) (x : TrapAt)
@@ -55,7 +55,7 @@ pub loop_stop : (line number : ℕ) (var : List ℕ) (first last : Expression) (
     → (run (loop line number None var first last step body) site cells).out ≡ Err x
 loop_stop line number var first last step body site cells x e =
     out_then (at_line line (turns_of first last step site cells)) _
-    ∙ ap (λ o. next o (λ u. (run_loop line None var body (run_all body) site u cells).out)) e
+    ∙ ap (λ o. next o (λ u. (run_turns var (run_all body) site u cells).out)) e
 
 -- one turn more
 pub turns_next : (n : ℕ) (f : ℕ → Run) (a b : Cells) → (turns n f a).out ≡ Ok b → (turns (suc n) f a).out ≡ (f n b).out
@@ -82,7 +82,7 @@ turn_run names variable t body k cells h q =
     let site = scene_site names in
     let var = slot_name names.0 variable in
     ap (λ o. (run_all body (in_turn site var) (set_at o (Some (Index (value_at t k))) cells)).out) (sym (place_by_slot names variable [] h))
-    ∙ run_all_agree body q (in_turn site var) site (record { keys = refl; ring = λ x. refl }) (set_at (place_in_slot names.0 variable []) (Some (Index (value_at t k))) cells)
+    ∙ run_all_agree body q (in_turn site var) site (record { keys = refl; width = refl; ring = λ x. refl }) (set_at (place_in_slot names.0 variable []) (Some (Index (value_at t k))) cells)
 
 -- a stop in a turn is the loop's
 pub turns_ran : (A B : Type 0) (names : Names) (variable : ℕ) (t : Turns) (body : Statements) (k : ℕ) (a b d : Cells) (e : RunStop) → variable < length names.0 → are_sequential body ≡ true → k < t.count

@@ -15,3 +15,4 @@ pub mod Resolves
 pub mod Sequential
 pub mod Steps
 pub mod Running
+pub mod Widths

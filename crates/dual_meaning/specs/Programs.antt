@@ -5,6 +5,7 @@ use Rattle.fl_ast.specs.declared.kind.Kind.{Kind}
 use Rattle.fl_ast.specs.declared.kind.Kind.TheVariants as kind
 use Rattle.fl_ast.specs.Tree.{Subroutine, Statements}
 use Rattle.fl_types.specs.Sharing.{has_name}
+use Rattle.ring_core.specs.declared.ring.Width.TheVariants.{W64}
 use Rattle.store_core.specs.declared.layout.Shape.{Shape}
 use Rattle.store_core.specs.Values.{index_of}
 use Rattle.dual_meaning.specs.declared.value.Value.{Value}
@@ -16,7 +17,7 @@ use Rattle.dual_meaning.specs.Sequential.{are_sequential}
 use Rattle.dual_meaning.specs.Steps.{are_statements_placed}
 use Rattle.dual_meaning.specs.declared.value.TrapAt.{TrapAt}
 use Rattle.dual_meaning.specs.Logs.{Told}
-use Rattle.dual_meaning.specs.Sites.{Key, Cells, Site, opening_site, kind_of}
+use Rattle.dual_meaning.specs.Sites.{Key, Cells, Site, data_width, opening_site, kind_of}
 use Rattle.dual_meaning.specs.Statements.{Run, run_all}
 use Rattle.dual_meaning.specs.Adjoints.{along, adjoint_at}
 
@@ -55,12 +56,13 @@ meaning p shapes pushed words direction = run_of p shapes pushed (along directio
 abbrev pub adjoint_of : Subroutine → List Shape → (words seed : List ℕ) → ℕ → ℕ
 adjoint_of p shapes words seed j = adjoint_at (run_of p shapes unpushed) (entry_cells p shapes words) seed j
 
--- what a run of statements without parallel loops answers: the cells after them, or where they trap, whatever is pushed; or that they don't run
+-- what a run of statements without parallel loops answers: the cells after them, or where they trap, whatever is pushed; or that they don't run.
+-- The code compares data of eight bytes.
 abbrev pub RunsSequentially : {A : Type 0} → List Shape → List Decl → Statements → Cells → Cells → Result A RunError → Type 0
 RunsSequentially shapes decls body old new (Ok _) =
-    (are_sequential body ≡ true) × ((pushed : List ℕ → Bool) → (run_all body (opening_site decls shapes pushed) old).out ≡ Ok new)
+    (are_sequential body ≡ true) × (data_width decls ≡ W64 → (pushed : List ℕ → Bool) → (run_all body (opening_site decls shapes pushed) old).out ≡ Ok new)
 RunsSequentially shapes decls body old new (Err (Trap t)) =
-    (are_sequential body ≡ true) × ((pushed : List ℕ → Bool) → (run_all body (opening_site decls shapes pushed) old).out ≡ Err t)
+    (are_sequential body ≡ true) × (data_width decls ≡ W64 → (pushed : List ℕ → Bool) → (run_all body (opening_site decls shapes pushed) old).out ≡ Err t)
 RunsSequentially shapes decls body old new (Err Unplaced) = are_statements_placed (with_scalars shapes decls) body ≡ false
 RunsSequentially shapes decls body old new (Err Parallel) = are_sequential body ≡ false
 RunsSequentially shapes decls body old new (Err TooManyPlaces) = 2 ^ 21 < length (keys_of (with_scalars shapes decls))

@@ -1,5 +1,6 @@
 -- The names of a run with their slots: shapes, and kinds.
 use Rattle.std.specs.Prelude.{◌≡◌, ℕ, ◌<◌, ◌^◌, Bool, false, if◌then◌else◌, List, [], map, length, Option, Some, None, slice_get, Result, Ok, Err}
+use Rattle.ring_core.specs.declared.ring.Width.TheVariants.{W64}
 use Rattle.fl_ast.specs.declared.kind.Kind.{Kind}
 use Rattle.fl_ast.specs.declared.kind.Kind.TheVariants as kind
 use Rattle.fl_ast.specs.declared.decl.Decl.{Decl}
@@ -30,17 +31,17 @@ is_ring_at kinds (Some slot) = is_ring_kind (kind_at kinds slot)
 abbrev pub is_ring_in : Names → List ℕ → Bool
 is_ring_in names x = is_ring_at names.1 (slot_of names.0 x)
 
--- outside every parallel loop, the cells being those of the names
+-- outside every parallel loop, the cells being those of the names, and data of eight bytes
 abbrev pub scene_site : Names → Site
 scene_site names = record {
   keys = keys_of names.0;
   declared = [];
   ring = is_ring_in names;
+  width = W64;
   pushed = λ x. false;
   outer = [];
   accessed = λ x. false;
   pluses = λ x. false;
-  number = 0;
 }
 
 -- the kind that declarations give a name

@@ -1,5 +1,5 @@
 -- What statements do, in order, on one thread: the cells after them, and the log.
-use Rattle.std.specs.Prelude.{ℕ, zero, suc, ◌+◌, Bool, true, false, ◌&&◌, if◌then◌else◌, List, [], ◌∷◌, filter, Option, Some, None, Ok, Err, ℤ, pos, ◌+ℤ◌, ◌-ℤ◌, ◌*ℤ◌, slice_set, int_div}
+use Rattle.std.specs.Prelude.{ℕ, zero, suc, ◌+◌, ◌*◌, ◌/◌, ◌%◌, Bool, true, false, ◌&&◌, if◌then◌else◌, List, [], ◌∷◌, filter, Option, Some, None, Ok, Err, ℤ, pos, ◌+ℤ◌, ◌-ℤ◌, ◌*ℤ◌, slice_set, int_div}
 use Rattle.std.specs.Ordering.{int_eq}
 use Rattle.std.specs.Int.{w64, cast_unsigned}
 use Rattle.fl_ast.specs.declared.directive.Directive.{Directive}
@@ -7,6 +7,7 @@ use Rattle.fl_ast.specs.Tree.{Expression, Designator, Statement, assignment, bra
 use Rattle.fl_types.specs.declared.access.AccessKind.{AccessKind}
 use Rattle.fl_types.specs.declared.access.AccessKind.TheVariants.{Write}
 use Rattle.fl_types.specs.Increment.{Signed, increment_terms}
+use Rattle.fl_types.specs.Nests.{Head, is_nest, further_head}
 use Rattle.fl_types.specs.Sharing.{assigns_in, sharing_in, is_private}
 use Rattle.fl_types.specs.Accesses.{increment_kind}
 use Rattle.store_core.specs.Bounds.{clipped}
@@ -18,8 +19,8 @@ use Rattle.dual_meaning.specs.declared.value.Cause.TheVariants.{ZeroDivisor, Bou
 use Rattle.dual_meaning.specs.declared.value.TrapAt.{TrapAt}
 use Rattle.dual_meaning.specs.declared.value.Turns.{Turns}
 use Rattle.dual_meaning.specs.Values.{dual_add, dual_sub, as_dual, converted, whole, wholes}
-use Rattle.dual_meaning.specs.Logs.{Log, silence, single, sets, both, pushes, ends, instance, turn, iteration, condition, taken, Told, pure, lift, after, ◌>>=◌, inside, at_line}
-use Rattle.dual_meaning.specs.Sites.{Cells, Site, in_turn, in_iteration, place_of, kind_of, word_of}
+use Rattle.dual_meaning.specs.Logs.{Log, silence, single, sets, both, pushes, ends, instance, right_side, rounds, turn, iteration, condition, taken, Told, pure, lift, after, ◌>>=◌, inside, at_line}
+use Rattle.dual_meaning.specs.Sites.{Cells, pointed, Site, in_turn, in_iteration, place_of, kind_of, word_of}
 use Rattle.dual_meaning.specs.Expressions.{touching, content, value_of, values_of, holds}
 
 -- what runs: from where it stands and the cells before, to the cells after
@@ -32,12 +33,12 @@ noted l cells = record { log = l; out = Ok cells }
 
 -- ---- assignments
 
-abbrev pub set_log : ℕ → Value → Log
-set_log p (Index z) = sets p z
-set_log p (Ring d) = silence
+-- a store is told without tangents
+abbrev pub set_log : ℕ → Option Value → Log
+set_log p v = sets p (pointed 0 v)
 
 abbrev pub stored : Cells → ℕ → Value → Told Cause Cells
-stored cells p v = record { log = set_log p v; out = Ok (slice_set cells p (Some v)) }
+stored cells p v = record { log = set_log p (Some v); out = Ok (slice_set cells p (Some v)) }
 
 -- with the old value's word first, where the name's old values are pushed
 abbrev pub saving : {X A : Type 0} → Site → List ℕ → Option Value → Told X A → Told X A
@@ -50,7 +51,7 @@ put site cells x v (Some p) = touching site x p Write (saving site x (content ce
 -- the value, the subscripts, the check of bounds, the touch, the old value's word, and the store
 abbrev pub plain : Site → Cells → Designator → Expression → Told Cause Cells
 plain site cells p e =
-    value_of e site cells >>=
+    inside (right_side p.name) (value_of e site cells) >>=
     (λ v. values_of p.subscripts site cells >>=
     (λ subscripts. put site cells p.name v (place_of site p.name (wholes subscripts))))
 
@@ -64,7 +65,7 @@ grown (r ∷ rs) d = grown rs (if r.0 then dual_sub d r.1 else dual_add d r.1)
 
 abbrev pub grow_cell : Site → Cells → List ℕ → AccessKind → List (Bool × Dual) → ℕ → Option Value → Told Cause Cells
 grow_cell site cells x kind ds p None = lift (Err (Unset x))
-grow_cell site cells x kind ds p (Some v) = touching site x p kind (pure (slice_set cells p (Some (Ring (grown ds (as_dual v))))))
+grow_cell site cells x kind ds p (Some v) = touching site x p kind (stored cells p (Ring (grown ds (as_dual v))))
 
 abbrev pub grow : Site → Cells → List ℕ → AccessKind → List (Bool × Dual) → Option ℕ → Told Cause Cells
 grow site cells x kind ds None = lift (Err (Bounds x))
@@ -73,7 +74,7 @@ grow site cells x kind ds (Some p) = grow_cell site cells x kind ds p (content c
 -- the rest terms, the subscripts once, the checks of bounds and of being set, the touch, and the update
 abbrev pub increment : Site → Cells → Designator → List Signed → AccessKind → Told Cause Cells
 increment site cells p rest kind =
-    terms_of rest site cells >>=
+    inside (right_side p.name) (terms_of rest site cells) >>=
     (λ ds. values_of p.subscripts site cells >>=
     (λ subscripts. grow site cells p.name kind ds (place_of site p.name (wholes subscripts))))
 
@@ -106,14 +107,14 @@ abbrev pub set_at : Option ℕ → Option Value → Cells → Cells
 set_at None v cells = cells
 set_at (Some p) v cells = slice_set cells p v
 
-abbrev pub set_log_at : Option ℕ → Value → Log
+abbrev pub set_log_at : Option ℕ → Option Value → Log
 set_log_at None v = silence
 set_log_at (Some p) v = set_log p v
 
 -- the cells with a loop's variable set, and then a run
 abbrev pub setting : Site → List ℕ → ℤ → Run → Run
 setting site var z f cells =
-    after (set_log_at (place_of site var []) (Index z)) (f (set_at (place_of site var []) (Some (Index z)) cells))
+    after (set_log_at (place_of site var []) (Some (Index z))) (f (set_at (place_of site var []) (Some (Index z)) cells))
 
 -- the first n turns
 abbrev pub turns : ℕ → (ℕ → Run) → Run
@@ -127,11 +128,15 @@ loop_words t =
 
 -- the private scalars of a parallel loop, in the order of their declarations
 abbrev pub private_names : Site → Directive → List ℕ → Statements → List (List ℕ)
-private_names site directive var body = filter (λ x. is_private (sharing_in site.outer var directive body x)) site.declared
+private_names site directive var body = filter (λ x. is_private (sharing_in var directive body x)) site.declared
 
 abbrev pub unset_all : Site → List (List ℕ) → Cells → Cells
 unset_all site [] cells = cells
 unset_all site (x ∷ xs) cells = unset_all site xs (set_at (place_of site x []) None cells)
+
+abbrev pub unset_log : Site → List (List ℕ) → Log
+unset_log site [] = silence
+unset_log site (x ∷ xs) = both (set_log_at (place_of site x []) None) (unset_log site xs)
 
 abbrev pub content_at : Cells → Option ℕ → Option Value
 content_at cells None = None
@@ -148,19 +153,54 @@ private_words site body (x ∷ xs) cells =
 abbrev pub one_turn : Site → List ℕ → Turns → (Site → Run) → ℕ → Run
 one_turn site var t body k cells = inside (turn k) (setting site var (value_at t k) (body (in_turn site var)) cells)
 
+-- the turns of a sequential loop, and its words
+abbrev pub run_turns : List ℕ → (Site → Run) → Site → Turns → Run
+run_turns var body site t cells = turns t.count (one_turn site var t body) cells >>= noted (loop_words t)
+
+-- ---- parallel loops
+
+-- the heads of a parallel loop: a variable with its turns, the outer loop first
+abbrev pub Heads : Type 0
+Heads = List (List ℕ × Turns)
+
+-- how many iterations there are, the inner loop running faster
+abbrev pub iterations : Heads → ℕ
+iterations [] = 1
+iterations (h ∷ []) = h.1.count
+iterations (h ∷ g ∷ hs) = h.1.count * iterations (g ∷ hs)
+
+-- the cells with the loops' variables set for iteration k, and then a run
+abbrev pub setting_all : Site → Heads → ℕ → Run → Run
+setting_all site [] k f = f
+setting_all site (h ∷ []) k f = setting site h.0 (value_at h.1 k) f
+setting_all site (h ∷ g ∷ hs) k f =
+    setting site h.0 (value_at h.1 (k / iterations (g ∷ hs))) (setting_all site (g ∷ hs) (k % iterations (g ∷ hs)) f)
+
+abbrev pub words_of_all : Heads → Log
+words_of_all [] = silence
+words_of_all (h ∷ hs) = both (loop_words h.1) (words_of_all hs)
+
+-- the turns of the loop that is collapsed with a parallel one; they are evaluated once, however many the outer ones are
+abbrev pub further_turns : Option Head → Site → Cells → Told TrapAt Heads
+further_turns None site cells = pure []
+further_turns (Some h) site cells = at_line h.line (turns_of h.first h.last h.step site cells) >>= (λ t. pure ((h.var, t) ∷ []))
+
+abbrev pub heads_of : Head → Option Head → Site → Cells → Told TrapAt Heads
+heads_of h more site cells =
+    at_line h.line (turns_of h.first h.last h.step site cells) >>= (λ t. further_turns more site cells >>= (λ hs. pure ((h.var, t) ∷ hs)))
+
 -- an iteration of a parallel loop: its private scalars are unset at its start
-abbrev pub one_iteration : Site → Directive → List ℕ → Turns → Statements → (Site → Run) → ℕ → Run
-one_iteration site directive var t tree body k cells =
+abbrev pub one_iteration : Site → Directive → List ℕ → Heads → Statements → (Site → Run) → ℕ → Run
+one_iteration site directive var heads tree body k cells =
     let names = private_names site directive var tree in
     inside (iteration k)
-    (setting site var (value_at t k) (body (in_iteration site directive var tree k)) (unset_all site names cells)
+    (after (unset_log site names) (setting_all site heads k (body (in_iteration site directive var tree)) (unset_all site names cells))
     >>= (λ c. noted (private_words site tree names c) c))
 
--- the turns of a loop and its words, a parallel one's end coming before them
-abbrev pub run_loop : ℕ → Option Directive → List ℕ → Statements → (Site → Run) → Site → Turns → Run
-run_loop line None var tree body site t cells = turns t.count (one_turn site var t body) cells >>= noted (loop_words t)
-run_loop line (Some directive) var tree body site t cells =
-    turns t.count (one_iteration site directive var t tree body) cells >>= noted (both (single (ends line)) (loop_words t))
+-- the iterations of a parallel loop, its end, and its words
+abbrev pub run_parallel : ℕ → Directive → List ℕ → Statements → (Site → Run) → Site → Heads → Run
+run_parallel line directive var tree body site heads cells =
+    inside rounds (turns (iterations heads) (one_iteration site directive var heads tree body) cells) >>= noted (both (single (ends line)) (words_of_all heads))
 
 -- ---- statements
 
@@ -177,12 +217,26 @@ abbrev mutual
   run (assignment line atomic p e) site cells =
       inside instance (at_line line (assigned site cells atomic p e (increment_terms site.ring p e)))
   run (branch line arms other) site cells = inside instance (run_arms arms line 0 (run_all other) site cells)
-  run (loop line number directive var first last step body) site cells =
-      inside instance (at_line line (turns_of first last step site cells) >>= (λ t. run_loop line directive var body (run_all body) site t cells))
+  run (loop line number None var first last step body) site cells =
+      inside instance (at_line line (turns_of first last step site cells) >>= (λ t. run_turns var (run_all body) site t cells))
+  run (loop line number (Some directive) var first last step body) site cells =
+      inside instance
+      (heads_of (record { line = line; var = var; first = first; last = last; step = step }) (further_head directive body) site cells
+      >>= (λ heads. run_parallel line directive var body (if is_nest directive body then run_inner body else run_all body) site heads cells))
 
   pub run_all : Statements → Site → Run
   run_all no_statements site cells = pure cells
   run_all (statement s ss) site cells = run s site cells >>= run_all ss site
+
+  -- the statements of the loop in a body
+  pub run_inner : Statements → Site → Run
+  run_inner no_statements site cells = pure cells
+  run_inner (statement s ss) site cells = run_within s site cells
+
+  pub run_within : Statement → Site → Run
+  run_within (assignment line atomic p e) site cells = pure cells
+  run_within (branch line arms other) site cells = pure cells
+  run_within (loop line number directive var first last step body) site cells = run_all body site cells
 
   -- the arms from the m-th on: their conditions are evaluated until one holds
   pub run_arms : Arms → (line m : ℕ) → (Site → Run) → Site → Run

@@ -1,5 +1,6 @@
 ghost use Rattle.std.specs.Prelude.{◌≡◌, [], ◌∷◌};
-ghost use Rattle.dual_meaning.specs.Values.{dual_add, dual_sub, dual_neg, dual_mul, dual_pow, cause_of, as_dual, converted, rank, whole, literal_value, index_result, ring_result, binary_result, negated, power_result, larger, smaller, absolute, remainder, call_result, relates};
+ghost use Rattle.dual_meaning.specs.Values.{dual_add, dual_sub, dual_neg, dual_mul, dual_pow, cause_of, as_dual, converted, rank, whole, literal_value, index_result, ring_result, binary_result, negated, power_result, larger, smaller, absolute, remainder, call_result, compares, ranks as ranks_lem, relates};
+ghost use Rattle.ring_core.specs.declared.ring.Width.TheVariants.{W64};
 ghost use Rattle.dual_meaning.specs.declared.value.Value.{Value};
 
 use crate::value::{Cause, Dual, Value};
@@ -107,7 +108,7 @@ impl Value {
 
     /// The number by which values are compared.
     pub fn rank(&self) -> i64
-        ensures { result ≡ rank self.now }
+        ensures { result ≡ rank W64 self.now }
     {
         match self {
             Value::Index(index) => i64::from(index.value()),
@@ -144,7 +145,7 @@ impl Value {
     }
 
     pub fn max(self, other: Value) -> Result<Value, Cause>
-        ensures { result ≡ larger self other }
+        ensures { result ≡ larger W64 self other }
     {
         if self.rank() >= other.rank() {
             Ok(self)
@@ -154,7 +155,7 @@ impl Value {
     }
 
     pub fn min(self, other: Value) -> Result<Value, Cause>
-        ensures { result ≡ smaller self other }
+        ensures { result ≡ smaller W64 self other }
     {
         if self.rank() <= other.rank() {
             Ok(self)
@@ -164,7 +165,7 @@ impl Value {
     }
 
     pub fn abs(self) -> Result<Value, Cause>
-        ensures { result ≡ absolute self }
+        ensures { result ≡ absolute W64 self }
     {
         if self.rank() < 0 {
             self.neg()
@@ -237,7 +238,7 @@ pub fn binary(op: BinOp, left: Value, right: Value) -> Result<Value, Cause>
 }
 
 fn on_two(fun: Fun, left: Value, right: Value) -> Result<Value, Cause>
-    ensures { result ≡ call_result fun (left ∷ right ∷ []) }
+    ensures { result ≡ call_result W64 fun (left ∷ right ∷ []) }
 {
     match fun {
         Fun::Max => left.max(right),
@@ -249,7 +250,7 @@ fn on_two(fun: Fun, left: Value, right: Value) -> Result<Value, Cause>
 
 /// The intrinsic's value at its arguments.
 pub fn called(fun: Fun, args: &[Value]) -> Result<Value, Cause>
-    ensures { result ≡ call_result fun args.now }
+    ensures { result ≡ call_result W64 fun args.now }
 {
     match args {
         [value] => match fun {
@@ -261,12 +262,22 @@ pub fn called(fun: Fun, args: &[Value]) -> Result<Value, Cause>
     }
 }
 
-/// Whether a relation holds. Ring values are compared by their representatives in -2^63 .. 2^63-1.
-pub fn related(op: RelOp, left: Value, right: Value) -> bool
-    ensures { result ≡ relates op left right }
+/// The numbers by which two values are compared; of two kinds the index value is converted to the ring kind.
+fn ranks(left: Value, right: Value) -> (i64, i64)
+    ensures { result ≡ ranks_lem W64 left right }
 {
-    let left = left.rank();
-    let right = right.rank();
+    match left {
+        Value::Index(index) => match right {
+            Value::Index(other) => (i64::from(index.value()), i64::from(other.value())),
+            Value::Ring(dual) => (left.as_dual().value.signed(), dual.value.signed()),
+        },
+        Value::Ring(dual) => (dual.value.signed(), right.as_dual().value.signed()),
+    }
+}
+
+fn compares_by(op: RelOp, left: i64, right: i64) -> bool
+    ensures { result ≡ compares op left right }
+{
     match op {
         RelOp::Eq => left == right,
         RelOp::Ne => left != right,
@@ -275,4 +286,12 @@ pub fn related(op: RelOp, left: Value, right: Value) -> bool
         RelOp::Gt => left > right,
         RelOp::Ge => left >= right,
     }
+}
+
+/// Whether a relation holds. Ring values are compared by their representatives in -2^63 .. 2^63-1.
+pub fn related(op: RelOp, left: Value, right: Value) -> bool
+    ensures { result ≡ relates W64 op left right }
+{
+    let (left, right) = ranks(left, right);
+    compares_by(op, left, right)
 }

@@ -15,8 +15,9 @@ mod value;
 pub use arithmetic::{binary, called, literal, related};
 pub use evaluator::{EvalStop, evaluate, holds};
 pub use laws::{
-    conflict_is_reported, sequential_runs_go_by_keys, tangents_are_linear, tangents_are_unseen,
-    values_go_by_keys, variables_fit,
+    cells_are_replayed, conflict_is_reported, reports_are_one, runs_go_by_keys,
+    runs_respect_widths, sequential_runs_go_by_keys, tangents_are_linear, tangents_are_unseen,
+    traps_are_told, values_go_by_keys, variables_fit, widths_are_respected,
 };
 pub use resolve::{ResolveError, resolve_expression, resolve_place, resolve_test};
 pub use resolve_steps::{resolve_statement, resolve_statements};

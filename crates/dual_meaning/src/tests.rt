@@ -48,6 +48,7 @@ fn scalar(alloc: Global, name: &[u8], kind: Kind) -> Result<Decl, Memory> {
         line: 2,
         name: Name::of(alloc, name)?,
         kind,
+        bytes: 8,
         intent: Intent::Unsaid,
         dims: Items::new(alloc),
     })

@@ -3,3 +3,4 @@ pub mod AdjointTree
 pub mod Induction
 pub mod Same
 pub mod Occurs
+pub mod Sizes

@@ -11,7 +11,7 @@ mod same;
 mod stmt;
 
 pub use adjoint::{AArm, AExpr, AStmt, Adjoint, AdjointText};
-pub use decl::{Bound, Decl, Dim, Factor, Sign, Term};
+pub use decl::{Bound, Decl, Dim, Factor, Sign, Term, bytes_of};
 pub use directive::{Directive, Schedule, ScheduleKind};
 pub use expr::{Cond, Expr, Place};
 pub use fl_base::{Memory, Name};

@@ -3,7 +3,7 @@ ghost use Rattle.std.specs.Prelude.{◌≡◌, IfOk};
 use crate::decl::{Decl, clone_decls};
 use crate::directive::{Directive, clone_names};
 use crate::expr::{Cond, Expr, Place};
-use fl_base::{Items, Memory, Name};
+use fl_base::{Boxed, Items, Memory, Name};
 use std::alloc::Global;
 
 /// A statement, at the line of its first word. Loops are numbered from 1 in textual order.
@@ -60,6 +60,12 @@ pub struct Head {
     pub step: Option<Expr>,
 }
 
+fn boxed(alloc: Global, expr: &Expr) -> Result<Boxed<Expr>, Memory>
+    ensures { IfOk result (λ x. x ≡ expr.now) }
+{
+    Boxed::new(alloc, expr.clone(alloc)?)
+}
+
 fn clone_step(alloc: Global, step: &Option<Expr>) -> Result<Option<Expr>, Memory>
     ensures { IfOk result (λ x. x ≡ step.now) }
 {
@@ -91,13 +97,13 @@ pub fn clone_head(
     ensures { IfOk result (λ x. x ≡ record { var = var.now; first = first.now; last = last.now; step = step.now }) }
 {
     let var = var.clone(alloc)?;
-    let first = first.clone(alloc)?;
-    let last = last.clone(alloc)?;
+    let first = boxed(alloc, first)?;
+    let last = boxed(alloc, last)?;
     let step = clone_step(alloc, step)?;
     Ok(Head {
         var,
-        first,
-        last,
+        first: first.into_inner(),
+        last: last.into_inner(),
         step,
     })
 }
@@ -134,9 +140,9 @@ impl Stmt {
                 step,
                 body,
             } => {
-                let head = clone_head(alloc, var, first, last, step)?;
-                let directive = clone_directive(alloc, directive)?;
                 let body = clone_stmts(alloc, body.as_slice())?;
+                let directive = clone_directive(alloc, directive)?;
+                let head = clone_head(alloc, var, first, last, step)?;
                 Ok(Stmt::Do {
                     line: *line,
                     number: *number,
@@ -157,10 +163,9 @@ impl Arm {
     pub fn clone(&self, alloc: Global) -> Result<Arm, Memory>
         ensures { IfOk result (λ x. x ≡ self.now) }
     {
-        Ok(Arm {
-            test: self.test.clone(alloc)?,
-            body: clone_stmts(alloc, self.body.as_slice())?,
-        })
+        let body = clone_stmts(alloc, self.body.as_slice())?;
+        let test = self.test.clone(alloc)?;
+        Ok(Arm { test, body })
     }
 }
 

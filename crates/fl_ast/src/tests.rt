@@ -58,6 +58,7 @@ fn scalar(alloc: Global, name: &[u8]) -> Result<Decl, Memory> {
         line: 2,
         name: Name::of(alloc, name)?,
         kind: Kind::Ring,
+        bytes: 8,
         intent: Intent::Both,
         dims,
     })

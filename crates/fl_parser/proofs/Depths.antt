@@ -1,6 +1,7 @@
 -- What is in the grammar is within the limits.
 use Rattle.std.proofs.Common.{◌≡◌, ℕ, zero, suc, ◌+◌, ◌<◌, ◌≤◌, max, Bool, true, false, nat_le, List, [], ◌∷◌, ◌++◌, length, length-append, Some, None, refl, sym, ap, subst, ◌∙◌, inl, inr, arith}
 use Rattle.std.proofs.lemmas.Bool.Decides.{nat_tests}
+use Rattle.fl_ast.specs.Sizes.{bytes_of}
 use Rattle.fl_ast.specs.declared.kind.Kind.{Kind}
 use Rattle.fl_ast.specs.declared.kind.Intent.{Intent}
 use Rattle.fl_ast.specs.declared.kind.BinOp.{BinOp}
@@ -196,7 +197,7 @@ abbrev Few : List Decl → Type 0
 Few ds = length ds ≤ 512
 
 declared_few : (ds : List Decl) (line : ℕ) (k : Kind) (i : Intent) (x : Word) → nat_le (length ds + 1) 512 ≡ true → Few (declared ds line k i x)
-declared_few ds line k i x h = let size = length-append ds ((record { line = line; name = x.name; kind = k; intent = i; dims = [] }) ∷ []) in grind (arith, nat_tests)
+declared_few ds line k i x h = let size = length-append ds ((record { line = line; name = x.name; kind = k; bytes = bytes_of k; intent = i; dims = [] }) ∷ []) in grind (arith, nat_tests)
 
 decls_few : Always (g2.decls the_limits) Few
 unfolding g2.decls g2.decl g2.items g2.another_item

@@ -1,5 +1,6 @@
 -- The trees that are read.
 use Rattle.std.specs.Prelude.{ℕ, ◌+◌, ◌==◌, max, cond, false, List, [], ◌∷◌, ◌++◌, Option, Some, None}
+use Rattle.fl_ast.specs.Sizes.{bytes_of}
 use Rattle.fl_ast.specs.declared.kind.Kind.{Kind}
 use Rattle.fl_ast.specs.declared.kind.Kind.TheVariants.{Index, Ring}
 use Rattle.fl_ast.specs.declared.kind.BinOp.{BinOp}
@@ -53,7 +54,7 @@ binary op l r = record { expr = Bin op l.expr r.expr; depth = max l.depth r.dept
 
 -- one more scalar
 abbrev pub declared : List Decl → ℕ → Kind → Intent → Word → List Decl
-declared ds line k i x = ds ++ (record { line = line; name = x.name; kind = k; intent = i; dims = [] }) ∷ []
+declared ds line k i x = ds ++ (record { line = line; name = x.name; kind = k; bytes = bytes_of k; intent = i; dims = [] }) ∷ []
 
 abbrev pub no_stmts : Counted
 no_stmts = record { stmts = []; count = 0 }

@@ -8,7 +8,7 @@ ghost use Rattle.fl_parser.specs.Trees as trees;
 ghost use Rattle.fl_parser.specs.UnitReading as spec;
 
 use crate::limit::NAMES;
-use fl_ast::{Decl, Intent, Kind};
+use fl_ast::{Decl, Intent, Kind, bytes_of};
 use fl_base::{Items, Memory};
 use parsing::{Cause, Cursor, Failure, Symbol, Word};
 use std::alloc::Global;
@@ -33,6 +33,7 @@ fn declared(
         line: head.line,
         name: word.name,
         kind: head.kind,
+        bytes: bytes_of(head.kind),
         intent: head.intent,
         dims: Items::new(alloc),
     })?;

@@ -2,4 +2,5 @@ pub mod Built
 pub mod Checked
 pub mod Increment
 pub mod Sharing
+pub mod Nests
 pub mod Accesses

@@ -8,7 +8,7 @@ use Rattle.ring_core.specs.Ring.{ring_add}
 use Rattle.operations.specs.declared.op.Op.{Op}
 use Rattle.operations.specs.declared.op.Op.TheVariants.{Load, Store, Bump, Add}
 use Rattle.operations.specs.Ops.{cell_of, acts, acts_all, Clear, ClearAll, Apart}
-use Rattle.operations.specs.Tree.{Tree, done, ◌>>=◌, Played, play, IsPast}
+use Rattle.operations.specs.Tree.{Tree, done, ◌giving◌, Played, play, IsPast}
 use Rattle.operations.specs.Order.{in_order, IsDisciplined, alone, rounds, chunk, joint, went, Machine, cells_by, last_by, put, next, step, steps, is_add, start, AllBelow, Follows, FollowsLoad, AllEnded}
 use Rattle.operations.proofs.OpLaws.{read_other, read_clear, clear_sym, acts_all-append, move, move_all, apart_right, apart_left, apart_none}
 use Rattle.operations.proofs.Trees.{bind, by_ops, past_all}
@@ -19,7 +19,7 @@ pub apart_before : (os : List Op) (ops : ℕ → List Op) (n : ℕ) → ((j : �
 apart_before os ops zero h = tt
 apart_before os ops (suc n) h = apart_right os (in_order ops n) (ops n) (apart_before os ops n (λ j lt. h j (omega arith))) (h n (omega arith))
 
-before_apart : (ops : ℕ → List Op) (n : ℕ) (us : List Op) → ((j : ℕ) → j < n → Apart (ops j) us) → Apart (in_order ops n) us
+pub before_apart : (ops : ℕ → List Op) (n : ℕ) (us : List Op) → ((j : ℕ) → j < n → Apart (ops j) us) → Apart (in_order ops n) us
 before_apart ops zero us h = apart_none us
 before_apart ops (suc n) us h = apart_left (in_order ops n) (ops n) us (before_apart ops n us (λ j lt. h j (omega arith))) (h n (omega arith))
 
@@ -40,7 +40,7 @@ rounds_alone {A} g (suc n) c h =
     let os = in_order (alone g c) n in
     let clear : Apart (alone g c n) os = apart_before (alone g c n) (alone g c) n (λ j lt. let ne : n ≢ j = omega arith in h n j (omega arith) (omega arith) ne) in
     let p : IsPast (play (g n) c) (play (g n) (acts_all os c)) os = past_all (g n) os c clear in
-    let u : Tree (Unit {0}) = g n >>= (λ _. done (tt {0})) in
+    let u : Tree (Unit {0}) = g n giving (λ _. done (tt {0})) in
     let e : (play u (acts_all os c)).ops ≡ alone g c n = ap (λ (r : Played (Unit {0})). r.ops) (bind (g n) (λ _. done (tt {0})) (acts_all os c)) ∙ append-nil _ ∙ p.ops in
     let all : (play (rounds g (suc n)) c).ops ≡ os ++ alone g c n =
     ap (λ (r : Played (Unit {0})). r.ops) (bind (rounds g n) (λ _. u) c) ∙ ap (λ (d : List ℕ). (play (rounds g n) c).ops ++ (play u d).ops) ih.cells ∙ ap (λ (l : List Op). l ++ (play u (acts_all os c)).ops) ih.ops ∙ ap (λ (l : List Op). os ++ l) e in

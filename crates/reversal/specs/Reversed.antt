@@ -5,6 +5,7 @@
 -- Written so far: straight lines of sums, differences and products.
 use Rattle.std.specs.Prelude.{ℕ, Bool, true, false, not, if◌then◌else◌, bytes_eq, List, [], ◌∷◌, ◌++◌, codes}
 use Rattle.std.specs.List.{flat_map, list_any}
+use Rattle.fl_ast.specs.Sizes.{bytes_of}
 use Rattle.fl_ast.specs.declared.kind.Kind.{Kind}
 use Rattle.fl_ast.specs.declared.kind.Kind.TheVariants as kind
 use Rattle.fl_ast.specs.declared.kind.Intent.TheVariants as intent
@@ -132,7 +133,7 @@ abbrev pub adjoint_decl : Decl → Decl
 adjoint_decl d = record d { intent = intent.Unsaid; name = adjoint_name d.name }
 
 abbrev pub own_decl : ℕ → List ℕ → Kind → Decl
-own_decl line name k = record { line = line; name = name; kind = k; intent = intent.Unsaid; dims = [] }
+own_decl line name k = record { line = line; name = name; kind = k; bytes = bytes_of k; intent = intent.Unsaid; dims = [] }
 
 abbrev pub with_adjoint_decl : List (List ℕ) → Decl → List Decl
 with_adjoint_decl names d =

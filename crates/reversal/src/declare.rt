@@ -4,7 +4,7 @@ ghost use Rattle.std.specs.Prelude.{◌≡◌, ◌++◌, ◌∷◌, [], IfOk, On
 ghost use Rattle.reversal.specs.Reversed as spec;
 
 use crate::name::{adjoint_name, is_active};
-use fl_ast::{Decl, Intent, Kind, Name};
+use fl_ast::{Decl, Intent, Kind, Name, bytes_of};
 use fl_base::{Items, Memory};
 use fl_types::NameSet;
 use std::alloc::Global;
@@ -58,6 +58,7 @@ fn own_decl(alloc: Global, line: u32, name: &[u8], kind: Kind) -> Result<Decl, M
         line,
         name: Name::of(alloc, name)?,
         kind,
+        bytes: bytes_of(kind),
         intent: Intent::Unsaid,
         dims: Items::new(alloc),
     })

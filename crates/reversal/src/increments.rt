@@ -12,20 +12,27 @@ use fl_base::{Boxed, Items, Memory};
 use fl_types::NameSet;
 use std::alloc::Global;
 
-fn binary(alloc: Global, op: BinOp, left: AExpr, right: AExpr) -> Result<AExpr, Memory>
+fn binary(
+    alloc: Global,
+    op: BinOp,
+    left: Boxed<AExpr>,
+    right: Boxed<AExpr>,
+) -> Result<Boxed<AExpr>, Memory>
     ensures { IfOk result (λ e. aexpr_tree e ≡ adjoint_binary op (aexpr_tree left) (aexpr_tree right)) }
 {
-    Ok(AExpr::Bin {
-        op,
-        left: Boxed::new(alloc, left)?,
-        right: Boxed::new(alloc, right)?,
-    })
+    Boxed::new(alloc, AExpr::Bin { op, left, right })
 }
 
-pub fn get(alloc: Global, place: &Place) -> Result<AExpr, Memory>
+fn copied(alloc: Global, amount: &AExpr) -> Result<Boxed<AExpr>, Memory>
+    ensures { IfOk result (λ e. e ≡ amount.now) }
+{
+    Boxed::new(alloc, amount.clone(alloc)?)
+}
+
+pub fn get(alloc: Global, place: &Place) -> Result<Boxed<AExpr>, Memory>
     ensures { IfOk result (λ e. aexpr_tree e ≡ adjoint_get (place_tree place.now)) }
 {
-    Ok(AExpr::Get(place.clone(alloc)?))
+    Boxed::new(alloc, AExpr::Get(place.clone(alloc)?))
 }
 
 pub fn zero() -> AExpr
@@ -39,18 +46,21 @@ pub fn zero() -> AExpr
 
 /// The expression as one of an adjoint.
 #[cycle(in_adjoint)]
-pub fn in_adjoint(alloc: Global, expr: &Expr) -> Result<AExpr, Memory>
+pub fn in_adjoint(alloc: Global, expr: &Expr) -> Result<Boxed<AExpr>, Memory>
     ensures { IfOk result (λ e. aexpr_tree e ≡ spec.in_adjoint (expr_tree expr.now)) }
 {
     match expr {
-        Expr::Lit { value, kind } => Ok(AExpr::Lit {
-            value: *value,
-            kind: *kind,
-        }),
+        Expr::Lit { value, kind } => {
+            let literal = AExpr::Lit {
+                value: *value,
+                kind: *kind,
+            };
+            Boxed::new(alloc, literal)
+        }
         Expr::Get(place) => get(alloc, place),
         Expr::Neg(inner) => {
             let inner = in_adjoint(alloc, inner.get())?;
-            Ok(AExpr::Neg(Boxed::new(alloc, inner)?))
+            Boxed::new(alloc, AExpr::Neg(inner))
         }
         Expr::Bin { op, left, right } => {
             let left = in_adjoint(alloc, left.get())?;
@@ -59,15 +69,13 @@ pub fn in_adjoint(alloc: Global, expr: &Expr) -> Result<AExpr, Memory>
         }
         Expr::Pow { base, exponent } => {
             let base = in_adjoint(alloc, base.get())?;
-            Ok(AExpr::Pow {
-                base: Boxed::new(alloc, base)?,
-                exponent: *exponent,
-            })
+            let exponent = *exponent;
+            Boxed::new(alloc, AExpr::Pow { base, exponent })
         }
-        Expr::Call { fun, args } => Ok(AExpr::Call {
-            fun: *fun,
-            args: all_in_adjoint(alloc, args.as_slice())?,
-        }),
+        Expr::Call { fun, args } => {
+            let args = all_in_adjoint(alloc, args.as_slice())?;
+            Boxed::new(alloc, AExpr::Call { fun: *fun, args })
+        }
     }
 }
 
@@ -77,26 +85,31 @@ fn all_in_adjoint(alloc: Global, exprs: &[Expr]) -> Result<Items<AExpr>, Memory>
 {
     let mut all = Items::new(alloc);
     for i in 0..exprs.len() {
-        all.push(in_adjoint(alloc, &exprs[i])?)?;
+        all.push(in_adjoint(alloc, &exprs[i])?.into_inner())?;
     }
     Ok(all)
 }
 
-fn times(alloc: Global, amount: &AExpr, factor: &Expr) -> Result<AExpr, Memory>
+fn times(alloc: Global, amount: &AExpr, factor: &Expr) -> Result<Boxed<AExpr>, Memory>
     ensures { IfOk result (λ e. aexpr_tree e ≡ spec.times (aexpr_tree amount.now) (expr_tree factor.now)) }
 {
-    let amount = amount.clone(alloc)?;
+    let amount = copied(alloc, amount)?;
     let factor = in_adjoint(alloc, factor)?;
     binary(alloc, BinOp::Mul, amount, factor)
 }
 
 /// What the amount becomes at an operand, beside the other one.
-fn amount_at(alloc: Global, op: BinOp, amount: &AExpr, other: &Expr) -> Result<AExpr, Memory>
+fn amount_at(
+    alloc: Global,
+    op: BinOp,
+    amount: &AExpr,
+    other: &Expr,
+) -> Result<Boxed<AExpr>, Memory>
     ensures { IfOk result (λ e. aexpr_tree e ≡ spec.amount_at op (aexpr_tree amount.now) (expr_tree other.now)) }
 {
     match op {
         BinOp::Mul => times(alloc, amount, other),
-        BinOp::Add | BinOp::Sub | BinOp::Div => amount.clone(alloc),
+        BinOp::Add | BinOp::Sub | BinOp::Div => copied(alloc, amount),
     }
 }
 
@@ -121,14 +134,14 @@ fn grown(
 {
     let target = adjoint_place(alloc, place)?;
     let before = get(alloc, &target)?;
-    let amount = amount.clone(alloc)?;
+    let amount = copied(alloc, amount)?;
     let op = if negative { BinOp::Sub } else { BinOp::Add };
     let value = binary(alloc, op, before, amount)?;
     Ok(AStmt::Assign {
         line,
         atomic: false,
         target,
-        value,
+        value: value.into_inner(),
     })
 }
 
@@ -164,10 +177,10 @@ pub fn push_increments(
         Expr::Bin { op, left, right } => {
             let (left, right) = (left.get(), right.get());
             let at_left = amount_at(alloc, *op, amount, right)?;
-            push_increments(alloc, growth, left, negative, &at_left, statements)?;
+            push_increments(alloc, growth, left, negative, at_left.get(), statements)?;
             let at_right = amount_at(alloc, *op, amount, left)?;
             let negative = sign_at_right(*op, negative);
-            push_increments(alloc, growth, right, negative, &at_right, statements)
+            push_increments(alloc, growth, right, negative, at_right.get(), statements)
         }
         Expr::Lit { .. } | Expr::Pow { .. } | Expr::Call { .. } => Ok(()),
     }

@@ -47,7 +47,7 @@ fn kept(
         line,
         atomic,
         target,
-        value,
+        value: value.into_inner(),
     })
 }
 
@@ -79,7 +79,7 @@ fn to_temporary(alloc: Global, line: u32, target: &Place) -> Result<AStmt, Memor
         line,
         atomic: false,
         target: temporary(alloc)?,
-        value,
+        value: value.into_inner(),
     })
 }
 
@@ -121,7 +121,7 @@ fn push_grown(
 {
     let amount = get(alloc, &temporary(alloc)?)?;
     let growth = Growth { active, line };
-    push_increments(alloc, &growth, value, false, &amount, reverse)
+    push_increments(alloc, &growth, value, false, amount.get(), reverse)
 }
 
 fn push_assignment(
