@@ -2,17 +2,17 @@
 use Rattle.std.proofs.Common.{◌≡◌, ℕ, ◌⊎◌, inl, inr, List, refl}
 use Rattle.ending.specs.declared.status.Status.{Status}
 use Rattle.ending.specs.declared.status.Status.TheVariants.{Done, Refused, BadData, OverLimit, ReadFault, NoMemory}
-use Rattle.ending.specs.Plan.{Files, Plan, Answers, Comes, untold}
+use Rattle.ending.specs.Plan.{Files, Plan, Answers, LeadsTo, untold}
 use Rattle.ending.specs.Ends.{Lacks}
 use Rattle.program_stage.proofs.ProgramPast.{program_past, names_past}
 use Rattle.data_stages.proofs.DataPast.{args_past, seed_past, layout_past}
 use Rattle.commands.specs.Plans.{layout_plan, seed_plan, typed_plan, run_plan}
 
-answered_status : {files : Files} {own status : Status} {text : List ℕ} → Comes files (Answers own) status text → own ≡ status
+answered_status : {files : Files} {own status : Status} {text : List ℕ} → LeadsTo files (Answers own) status text → own ≡ status
 answered_status untold = refl
 
 pub run_past : {files : Files} (file values seed : List ℕ) (of wrt : List (List ℕ)) {status : Status} {text : List ℕ} →
-    Comes files (run_plan file values seed of wrt) status text →
+    LeadsTo files (run_plan file values seed of wrt) status text →
     (Done ≡ status → ⊥) → (Refused ≡ status → ⊥) → (BadData ≡ status → ⊥) → (OverLimit ≡ status → ⊥) → (ReadFault ≡ status → ⊥) → (NoMemory ≡ status → ⊥) →
     Lacks files file status text ⊎ (Lacks files values status text ⊎ Lacks files seed status text)
 unfolding run_plan typed_plan seed_plan layout_plan

@@ -8,7 +8,7 @@ use Rattle.std.specs.Ordering.{match_ordering}
 use Rattle.serde_json.specs.View.{members_view}
 use Rattle.serde_json.proofs.Views.{Entry}
 use Rattle.data_io.specs.declared.data.DataError.TheVariants.{Extra}
-use Rattle.data_io.specs.Rule.{keys_in, lesser, least, is_asked, extra_fault, extra_faults}
+use Rattle.data_io.specs.DataFaults.{keys_in, lesser, least, is_asked, extra_fault, extra_faults}
 
 -- nothing, or a key above k
 abbrev IsAbove : List ℕ → Option (List ℕ) → Type 0

@@ -6,7 +6,7 @@ use Rattle.serde_json.specs.Find.{as_object}
 use Rattle.fl_ast.specs.declared.decl.Decl.{Decl}
 use Rattle.store_core.specs.declared.values.Entry.{Entry}
 use Rattle.data_io.specs.declared.data.DataError.{DataError}
-use Rattle.data_io.specs.Rule.{scalar_faults, array_faults, name_faults, extra_faults, object_faults, faults_of}
+use Rattle.data_io.specs.DataFaults.{scalar_faults, array_faults, name_faults, extra_faults, object_faults, faults_of}
 
 pub first_more : (e : DataError) (fs gs : List DataError) → slice_get fs 0 ≡ Some e → slice_get (fs ++ gs) 0 ≡ Some e
 first_more e [] gs h = absurd (let f : None ≡ Some e = h in cc)

@@ -7,7 +7,7 @@ use Rattle.serde_json.specs.declared.value.Value.{Value}
 use Rattle.data_io.specs.declared.data.DataError.{DataError}
 use Rattle.data_io.specs.declared.data.DataError.TheVariants.{Shape}
 use Rattle.fl_ast.specs.declared.decl.Decl.{Decl}
-use Rattle.data_io.specs.Rule.{Answers, list_of, list_faults, element_faults, list_words, word_of}
+use Rattle.data_io.specs.DataFaults.{Answers, list_of, list_faults, element_faults, list_words, word_of}
 
 pub list_of-items_view : (vs : List Value) → list_of (items_view vs) ≡ map view vs
 list_of-items_view [] = refl

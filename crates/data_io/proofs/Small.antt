@@ -9,7 +9,7 @@ use Rattle.fl_ast.specs.declared.decl.Factor.TheVariants.{Lit, Scalar}
 use Rattle.store_core.specs.declared.values.Entry.{Entry}
 use Rattle.serde_json.specs.Data.{Data, object, array, number, unsigned, negative, string, member, no_members, item, no_items}
 use Rattle.data_io.specs.declared.data.DataError.TheVariants.{Missing, Extra, NotWhole, Shape, IndexRange}
-use Rattle.data_io.specs.Rule.{args_faults, faults_of, entries_of}
+use Rattle.data_io.specs.DataFaults.{args_faults, faults_of, entries_of}
 
 abbrev upper : Bound
 upper = record { first = record { first = Scalar (codes "n"); second = None }; rest = None }

@@ -1,7 +1,7 @@
 ghost use Rattle.std.specs.Prelude.{◌≡◌, ◌+◌, ◌<◌, ◌^◌, map, option_map};
 ghost use Rattle.serde_json.specs.View.{view};
 ghost use Rattle.store_core.specs.Values.{is_index};
-ghost use Rattle.data_io.specs.Rule.{Answers, number_faults, element_faults, whole, word_of, found};
+ghost use Rattle.data_io.specs.DataFaults.{Answers, number_faults, element_faults, whole, word_of, found};
 
 use crate::data::DataError;
 use fl_ast::{Decl, Kind, Name};

@@ -2,7 +2,7 @@ ghost use Rattle.std.specs.Prelude.{[], ◌≡◌, ◌∷◌, ◌++◌, flat_map
 ghost use Rattle.serde_json.specs.Data.{Data};
 ghost use Rattle.serde_json.specs.View.{view, members_view};
 ghost use Rattle.serde_json.specs.Find.{as_array, as_object};
-ghost use Rattle.data_io.specs.Rule.{Answers, named_faults, number_faults, list_faults, list_of, whole, word_at, words_at, found, want_of, scalar_faults_of, array_faults_of, scalar_faults, array_faults, name_faults, extra_faults, is_asked, scalars_named, entry_of, name_entries, scalars_of, entries_of, faults_of, IsJson, no_json, array_entry as array_entry_of, scalar_entry as scalar_entry_of, args_of, seed_of, args_faults, no_args, no_weights};
+ghost use Rattle.data_io.specs.DataFaults.{Answers, named_faults, number_faults, list_faults, list_of, whole, word_at, words_at, found, want_of, scalar_faults_of, array_faults_of, scalar_faults, array_faults, name_faults, extra_faults, is_asked, scalars_named, entry_of, name_entries, scalars_of, entries_of, faults_of, IsJson, no_json, array_entry as array_entry_of, scalar_entry as scalar_entry_of, args_of, seed_of, args_faults, no_args, no_weights};
 
 use crate::data::DataError;
 use crate::number::{find, word, words};

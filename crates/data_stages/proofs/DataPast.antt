@@ -2,7 +2,7 @@
 use Rattle.std.proofs.Common.{◌≡◌, ℕ, ◌⊎◌, inl, inr, List, codes}
 use Rattle.ending.specs.declared.status.Status.{Status}
 use Rattle.ending.specs.declared.status.Status.TheVariants.{BadData, OverLimit, ReadFault, NoMemory}
-use Rattle.ending.specs.Plan.{Files, Plan, Comes}
+use Rattle.ending.specs.Plan.{Files, Plan, LeadsTo}
 use Rattle.ending.specs.Ends.{Lacks}
 use Rattle.ending.proofs.Past.{past_file, past_part}
 use Rattle.fl_ast.specs.declared.stmt.Program.{Program}
@@ -33,9 +33,9 @@ never_layout : (status : Status) → (OverLimit ≡ status → ⊥) → (NoMemor
 never_layout status o m laying.TooManyPlaces h = o h
 never_layout status o m laying.Memory h = m h
 
-pub args_past : {files : Files} (file : List ℕ) (program : Program) (rest : Args → Plan) {status : Status} {text : List ℕ} → Comes files (args_stage file program rest) status text →
+pub args_past : {files : Files} (file : List ℕ) (program : Program) (rest : Args → Plan) {status : Status} {text : List ℕ} → LeadsTo files (args_stage file program rest) status text →
     (BadData ≡ status → ⊥) → (NoMemory ≡ status → ⊥) → (OverLimit ≡ status → ⊥) → (ReadFault ≡ status → ⊥) →
-    Lacks files file status text ⊎ ((args : Args) × Comes files (rest args) status text)
+    Lacks files file status text ⊎ ((args : Args) × LeadsTo files (rest args) status text)
 unfolding args_stage args_part
 args_past file program rest {status = status} c b m o f =
     elim (past_file c f o) [
@@ -46,9 +46,9 @@ args_past file program rest {status = status} c b m o f =
     ]
 
 pub seed_past : {files : Files} (file : List ℕ) (program : Program) (args : Args) (of : List (List ℕ)) (rest : Weights → Plan) {status : Status} {text : List ℕ} →
-    Comes files (seed_stage file program args of rest) status text →
+    LeadsTo files (seed_stage file program args of rest) status text →
     (BadData ≡ status → ⊥) → (NoMemory ≡ status → ⊥) → (OverLimit ≡ status → ⊥) → (ReadFault ≡ status → ⊥) →
-    Lacks files file status text ⊎ ((weights : Weights) × Comes files (rest weights) status text)
+    Lacks files file status text ⊎ ((weights : Weights) × LeadsTo files (rest weights) status text)
 unfolding seed_stage seed_part
 seed_past file program args of rest {status = status} c b m o f =
     elim (past_file c f o) [
@@ -59,8 +59,8 @@ seed_past file program args of rest {status = status} c b m o f =
     ]
 
 pub layout_past : {files : Files} (program : Program) (args : Args) (rest : List Shape → Plan) {status : Status} {text : List ℕ} →
-    Comes files (layout_stage program args rest) status text → (OverLimit ≡ status → ⊥) → (NoMemory ≡ status → ⊥) →
-    (layout : List Shape) × Comes files (rest layout) status text
+    LeadsTo files (layout_stage program args rest) status text → (OverLimit ≡ status → ⊥) → (NoMemory ≡ status → ⊥) →
+    (layout : List Shape) × LeadsTo files (rest layout) status text
 unfolding layout_stage
 layout_past program args rest {status = status} c o m =
     let found = past_part say_layout (laid_out (shapes_of program args.entries)) rest c (never_layout status o m) in (found.0, found.2)

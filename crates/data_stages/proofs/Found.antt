@@ -16,7 +16,7 @@ use Rattle.fl_ast.specs.declared.stmt.Program.{Program}
 use Rattle.store_core.specs.Keys.{keys_of, LaysWithin}
 use Rattle.data_io.specs.declared.data.DataError.{DataError}
 use Rattle.data_io.specs.declared.data.DataError.TheVariants as reading
-use Rattle.data_io.specs.Rule.{Answers, IsJson, no_json, no_args, no_weights, args_faults, args_of, faults_of, seed_of}
+use Rattle.data_io.specs.DataFaults.{Answers, IsJson, no_json, no_args, no_weights, args_faults, args_of, faults_of, seed_of}
 use Rattle.data_stages.specs.Faults.{say_data}
 use Rattle.data_stages.specs.Files.{json_of, unless, of_json, args_in, seed_in}
 use Rattle.data_stages.specs.Layouts.{laid_out, say_layout}

@@ -9,7 +9,7 @@ use Rattle.store_core.specs.declared.values.Args.{Args}
 use Rattle.store_core.specs.declared.values.Weights.{Weights}
 use Rattle.data_io.specs.declared.data.DataError.{DataError}
 use Rattle.data_io.specs.declared.data.DataError.TheVariants.{NotJson}
-use Rattle.data_io.specs.Rule.{args_faults, args_of, faults_of, seed_of}
+use Rattle.data_io.specs.DataFaults.{args_faults, args_of, faults_of, seed_of}
 use Rattle.data_stages.specs.Faults.{say_data}
 
 -- the value that the bytes spell

@@ -8,11 +8,11 @@ use Rattle.std.proofs.lemmas.Bool.Decides.{nat_tests}
 use Rattle.std.proofs.lemmas.Int.{ints}
 use Rattle.std.specs.Prelude.{unsigned_abs}
 use Rattle.store_core.specs.Bounds.{clipped}
-use Rattle.dual_meaning.specs.declared.value.Turns.{Turns}
+use Rattle.meaning.specs.declared.value.IterationCount.{IterationCount}
 use Rattle.ring_core.specs.Index.{fits_index}
-use Rattle.dual_meaning.specs.Statements.{turns_by, value_at}
+use Rattle.meaning.specs.Statements.{turns_by, value_at}
 use Rattle.dual_meaning.specs.Running.{IsCounted}
-use Rattle.dual_meaning.proofs.Variables.{clipped_neg, variables_fit}
+use Rattle.meaning.proofs.Variables.{clipped_neg, variables_fit}
 
 pub down : (a d : ℤ) → a <ℤ pos 0 → d <ℤ pos 0 → unsigned_abs a / unsigned_abs d ≡ clipped (int_div a d)
 down (negsuc m) (negsuc s) h g = refl
@@ -56,7 +56,7 @@ from_range (pos n) e = let b : n < 2147483648 = grind (arith, nat_tests) in reco
 from_range (negsuc n) e = let b : n < 2147483648 = grind (arith, nat_tests) in record { sfits = b }
 
 -- a turn's value is of the index kind
-pub value_fits : (t : Turns) (k : ℕ) → IsCounted t → k < t.count → fits_index (value_at t k) ≡ true
+pub value_fits : (t : IterationCount) (k : ℕ) → IsCounted t → k < t.count → fits_index (value_at t k) ≡ true
 value_fits t k c l = variables_fit t.first t.last t.step k c.first c.last (subst (λ n. k < n) c.count l)
 
 -- as the code computes it

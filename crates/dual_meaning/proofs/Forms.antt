@@ -11,31 +11,31 @@ use Rattle.fl_types.specs.declared.increment.IncrementForm.{IncrementForm}
 use Rattle.fl_types.specs.declared.increment.IncrementForm.TheVariants.{Chain, Sum}
 use Rattle.fl_types.specs.Increment.{Signed, longer, target_of, chain, first_of_sum, are_free_of, if_free, either, rest_terms, increment_form, increment_terms}
 use Rattle.fl_types.specs.Accesses.{increment_kind}
-use Rattle.dual_meaning.specs.declared.value.Dual.{Dual}
-use Rattle.dual_meaning.specs.declared.value.Value.{Value}
-use Rattle.dual_meaning.specs.declared.value.Value.TheVariants.{Ring}
-use Rattle.dual_meaning.specs.declared.value.Cause.{Cause}
-use Rattle.dual_meaning.specs.Values.{dual_add, dual_sub, as_dual, wholes}
-use Rattle.dual_meaning.specs.Logs.{Log, Told, pure, joined, ◌>>=◌, inside, right_side}
-use Rattle.dual_meaning.specs.Sites.{Cells, Site, place_of}
-use Rattle.dual_meaning.specs.Expressions.{content, value_of, values_of}
-use Rattle.dual_meaning.specs.Statements.{stored, plain, put, terms_of, grown, grow_cell, grow, increment, assigned}
-use Rattle.dual_meaning.specs.Scenes.{Names, scene_site, is_ring_in}
-use Rattle.dual_meaning.specs.Steps.{form_in, same_form}
+use Rattle.meaning.specs.declared.value.Dual.{Dual}
+use Rattle.meaning.specs.declared.value.Value.{Value}
+use Rattle.meaning.specs.declared.value.Value.TheVariants.{Ring}
+use Rattle.meaning.specs.declared.value.Cause.{Cause}
+use Rattle.meaning.specs.Values.{dual_add, dual_sub, as_dual, wholes}
+use Rattle.meaning.specs.Logs.{Log, Traced, pure, joined, ◌>>=◌, inside, right_side}
+use Rattle.meaning.specs.Sites.{Cells, Site, place_of}
+use Rattle.meaning.specs.Expressions.{content, value_of, values_of}
+use Rattle.meaning.specs.Statements.{stored, plain, put, terms_of, grown, grow_cell, grow, increment, assigned}
+use Rattle.resolved.specs.SlotTables.{Names, table_site, is_ring_in}
+use Rattle.resolved.specs.Steps.{form_in, same_form}
 use Rattle.dual_meaning.specs.Answers.{located}
 use Rattle.dual_meaning.specs.Running.{put_by, grow_cell_by, grow_at, grow_by, summed, no_sum, chain_sum, front, by_form}
-use Rattle.dual_meaning.proofs.ByKeys.{touching_out}
+use Rattle.meaning.proofs.ByKeys.{touching_out}
 
 -- one result and then another
 abbrev pub next : {X A B : Type 0} → Result A X → (A → Result B X) → Result B X
 next (Ok a) f = f a
 next (Err x) f = Err x
 
-out_joined : {X A B : Type 0} (l : Log) (r : Result A X) (f : A → Told X B) → (joined l r f).out ≡ next r (λ a. (f a).out)
+out_joined : {X A B : Type 0} (l : Log) (r : Result A X) (f : A → Traced X B) → (joined l r f).out ≡ next r (λ a. (f a).out)
 out_joined l (Ok a) f = refl
 out_joined l (Err x) f = refl
 
-pub out_then : {X A B : Type 0} (t : Told X A) (f : A → Told X B) → (t >>= f).out ≡ next t.out (λ a. (f a).out)
+pub out_then : {X A B : Type 0} (t : Traced X A) (f : A → Traced X B) → (t >>= f).out ≡ next t.out (λ a. (f a).out)
 out_then t f = out_joined t.log t.out f
 
 -- ---- sums
@@ -188,7 +188,7 @@ sum_by : (site : Site) (cells : Cells) (x : List ℕ) (ss : Expressions) (a b : 
     → (chain_sum a site cells >>= (λ d. value_of b site cells >>= (λ v. pure (f d (as_dual v))))).out ≡ sums_of (terms_of rs site cells).out
 sum_by site cells x ss a b s f h more true e rs g =
     let r : (s, b) ∷ [] ≡ rs = cc in
-    joined_sum site cells a b s f h [] (ap (λ (t : Told Cause Dual). t.out) (starts x ss a site cells e)) ∙ ap (λ (qs : List Signed). sums_of (terms_of qs site cells).out) r
+    joined_sum site cells a b s f h [] (ap (λ (t : Traced Cause Dual). t.out) (starts x ss a site cells e)) ∙ ap (λ (qs : List Signed). sums_of (terms_of qs site cells).out) r
 sum_by site cells x ss a b s f h more false e rs g =
     let p = longer_parts (chain (get x ss) a) (s, b) rs g in
     joined_sum site cells a b s f h p.0 (more p.0 p.1) ∙ ap (λ (qs : List Signed). sums_of (terms_of qs site cells).out) (sym p.2)
@@ -236,7 +236,7 @@ next_next : {X A B C : Type 0} (r : Result A X) (g : A → B) (f : B → Result 
 next_next (Ok a) g f = refl
 next_next (Err x) g f = refl
 
-located_then : {A : Type 0} (site : Site) (cells : Cells) (p : Designator) (f : Option ℕ → Told Cause A)
+located_then : {A : Type 0} (site : Site) (cells : Cells) (p : Designator) (f : Option ℕ → Traced Cause A)
     → (located site cells p >>= f).out ≡ next (values_of p.subscripts site cells).out (λ vs. (f (place_of site p.name (wholes vs))).out)
 located_then site cells p f =
     out_then (located site cells p) f ∙ ap (λ o. next o (λ a. (f a).out)) (out_then (values_of p.subscripts site cells) _)
@@ -358,9 +358,9 @@ by_ring site cells atomic p e false = plain_is site cells p e
 
 -- the run by the form that fits is the run of the assignment
 pub by_form_is : (names : Names) (cells : Cells) (atomic : Bool) (p : Designator) (e : Expression) (form : Option IncrementForm) → same_form form (form_in names p e) ≡ true
-    → (by_form form (scene_site names) cells p e).out ≡ (assigned (scene_site names) cells atomic p e (increment_terms (is_ring_in names) p e)).out
+    → (by_form form (table_site names) cells p e).out ≡ (assigned (table_site names) cells atomic p e (increment_terms (is_ring_in names) p e)).out
 by_form_is names cells atomic p e form h =
-    ap (λ f. (by_form f (scene_site names) cells p e).out) (same_form_is form (form_in names p e) h) ∙ by_ring (scene_site names) cells atomic p e (is_ring_in names p.name)
+    ap (λ f. (by_form f (table_site names) cells p e).out) (same_form_is form (form_in names p e) h) ∙ by_ring (table_site names) cells atomic p e (is_ring_in names p.name)
 
 pub same_form_again : (form : Option IncrementForm) → same_form form form ≡ true
 same_form_again None = refl

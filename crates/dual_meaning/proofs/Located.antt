@@ -4,15 +4,15 @@ use Rattle.std.proofs.Common.{arith, ap}
 use Rattle.store_core.specs.declared.layout.Shape.{Shape}
 use Rattle.store_core.specs.Keys.{place_in_slot, place_of as place_in_shapes}
 use Rattle.fl_ast.specs.Tree.{Expressions}
-use Rattle.dual_meaning.specs.declared.value.Value.{Value}
-use Rattle.dual_meaning.specs.declared.value.Cause.{Cause}
-use Rattle.dual_meaning.specs.Values.{wholes}
-use Rattle.dual_meaning.specs.Logs.{Log, pure, joined}
-use Rattle.dual_meaning.specs.Expressions.{values_of}
+use Rattle.meaning.specs.declared.value.Value.{Value}
+use Rattle.meaning.specs.declared.value.Cause.{Cause}
+use Rattle.meaning.specs.Values.{wholes}
+use Rattle.meaning.specs.Logs.{Log, pure, joined}
+use Rattle.meaning.specs.Expressions.{values_of}
 use Rattle.dual_meaning.specs.Answers.{numbers_of, located}
-use Rattle.dual_meaning.specs.Scenes.{Names, scene_site}
-use Rattle.dual_meaning.specs.Codes.{slot_name, shape_name}
-use Rattle.dual_meaning.specs.Sites.{Cells, Site, place_of}
+use Rattle.resolved.specs.SlotTables.{Names, table_site}
+use Rattle.resolved.specs.Codes.{slot_name, shape_name}
+use Rattle.meaning.specs.Sites.{Cells, Site, place_of}
 
 by_shapes : (all shapes : List Shape) (slot : ℕ) (numbers : List ℤ) → slot < length shapes
     → option_and_then (λ (s : Shape). place_in_shapes all s.name numbers) (slice_get shapes slot) ≡ place_in_shapes all (shape_name (slice_get shapes slot)) numbers
@@ -21,7 +21,7 @@ by_shapes all (s ∷ shapes) zero numbers h = refl
 by_shapes all (s ∷ shapes) (suc slot) numbers h = by_shapes all shapes slot numbers (omega arith)
 
 -- the place in a slot is the place of its name
-pub place_by_slot : (names : Names) (slot : ℕ) (numbers : List ℤ) → slot < length names.0 → place_in_slot names.0 slot numbers ≡ place_of (scene_site names) (slot_name names.0 slot) numbers
+pub place_by_slot : (names : Names) (slot : ℕ) (numbers : List ℤ) → slot < length names.0 → place_in_slot names.0 slot numbers ≡ place_of (table_site names) (slot_name names.0 slot) numbers
 place_by_slot names slot numbers h = by_shapes names.0 names.0 slot numbers h
 
 joined_place : (l : Log) (r : Result (List Value) Cause) (f : List ℤ → Option ℕ) (zs : List ℤ) → numbers_of r ≡ Ok zs

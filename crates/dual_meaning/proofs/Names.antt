@@ -1,4 +1,4 @@
--- The kinds of a scene's names are those of the declarations.
+-- The kinds of a table's names are those of the declarations.
 use Rattle.std.specs.Prelude.{◌≡◌, ℕ, zero, suc, Bool, true, false, ◌||◌, if◌then◌else◌, cond, bytes_eq, List, [], ◌∷◌, ◌++◌, map, Option, Some, None, slice_get, Ok, Err, refl}
 use Rattle.std.proofs.Common.{ap, sym, ◌∙◌}
 use Rattle.std.specs.List.{list_any}
@@ -12,15 +12,15 @@ use Rattle.store_core.specs.Keys.{slot_of, scalar, with_scalars, laid, laid_all,
 use Rattle.store_core.proofs.Slots.{slot_found, slot_missing}
 use Rattle.fl_ast.specs.Tree.{Statements}
 use Rattle.ring_core.specs.declared.ring.Width.TheVariants.{W64}
-use Rattle.dual_meaning.specs.Sites.{data_width, Cells, opening_site}
-use Rattle.dual_meaning.specs.Statements.{run_all}
-use Rattle.dual_meaning.specs.Sequential.{are_sequential}
-use Rattle.dual_meaning.proofs.RunsByKeys.{runs_by_keys}
+use Rattle.meaning.specs.Sites.{data_width, Cells, opening_site}
+use Rattle.meaning.specs.Statements.{run_all}
+use Rattle.meaning.specs.Sequential.{are_sequential}
+use Rattle.meaning.proofs.RunsByKeys.{runs_by_keys}
 use Rattle.dual_meaning.specs.declared.runner.RunStop.{RunStop}
 use Rattle.dual_meaning.specs.declared.runner.RunStop.TheVariants as stop
-use Rattle.dual_meaning.specs.Programs.{RunsSequentially}
+use Rattle.dual_meaning.specs.Sequentially.{RunsSequentially}
 use Rattle.dual_meaning.specs.Running.{Ran, of_stop}
-use Rattle.dual_meaning.specs.Scenes.{Names, scene_site, kind_or, is_ring_at, is_ring_in, named_kind, kinds_of, names_of}
+use Rattle.resolved.specs.SlotTables.{Names, table_site, kind_or, is_ring_at, is_ring_in, named_kind, kinds_of, names_of}
 
 mapped : (f : Shape → Kind) (es : List Shape) (i : ℕ) (e : Shape) → slice_get es i ≡ Some e → slice_get (map f es) i ≡ Some (f e)
 mapped f [] i e h = absurd (cc)
@@ -75,23 +75,23 @@ ring_by_names es ds x = by_slot (slot_of (with_scalars es ds) x) refl
         ∙ ring_again (is_ring_name ds r.0.name) ∙ ap (is_ring_name ds) (sym r.2)
     by_slot None e = sym (undeclared x ds (apart_all x es (map (λ (d : Decl). scalar d.name) ds) (slot_missing (with_scalars es ds) x e)).1)
 
--- at a program's opening, statements without parallel loops run as in its scene
+-- at a program's opening, statements without parallel loops run as in its table
 pub opening_run : (es : List Shape) (ds : List Decl) (pushed : List ℕ → Bool) (body : Statements) (cells : Cells) → data_width ds ≡ W64 → are_sequential body ≡ true
-    → (run_all body (opening_site ds es pushed) cells).out ≡ (run_all body (scene_site (names_of es ds)) cells).out
-opening_run es ds pushed body cells w q = runs_by_keys (opening_site ds es pushed) (scene_site (names_of es ds)) refl w (λ x. sym (ring_by_names es ds x)) body q cells
+    → (run_all body (opening_site ds es pushed) cells).out ≡ (run_all body (table_site (names_of es ds)) cells).out
+opening_run es ds pushed body cells w q = runs_by_keys (opening_site ds es pushed) (table_site (names_of es ds)) refl w (λ x. sym (ring_by_names es ds x)) body q cells
 
 opened : (es : List Shape) (ds : List Decl) (body steps : Statements) (names : Names) (old : Cells) (pushed : List ℕ → Bool) → data_width ds ≡ W64 → names ≡ names_of es ds → steps ≡ body → are_sequential body ≡ true
-    → (run_all body (opening_site ds es pushed) old).out ≡ (run_all steps (scene_site names) old).out
+    → (run_all body (opening_site ds es pushed) old).out ≡ (run_all steps (table_site names) old).out
 opened es ds body steps names old pushed w n s q =
-    opening_run es ds pushed body old w q ∙ ap (λ b. (run_all b (scene_site (names_of es ds)) old).out) (sym s) ∙ ap (λ m. (run_all steps (scene_site m) old).out) (sym n)
+    opening_run es ds pushed body old w q ∙ ap (λ b. (run_all b (table_site (names_of es ds)) old).out) (sym s) ∙ ap (λ m. (run_all steps (table_site m) old).out) (sym n)
 
--- a run in the scene that ended
+-- a run in the table that ended
 pub ran_ok : (es : List Shape) (ds : List Decl) (body steps : Statements) (names : Names) (old new : Cells) → names ≡ names_of es ds → steps ≡ body → are_sequential body ≡ true
-    → (run_all steps (scene_site names) old).out ≡ Ok new → (are_sequential body ≡ true) × (data_width ds ≡ W64 → (pushed : List ℕ → Bool) → (run_all body (opening_site ds es pushed) old).out ≡ Ok new)
+    → (run_all steps (table_site names) old).out ≡ Ok new → (are_sequential body ≡ true) × (data_width ds ≡ W64 → (pushed : List ℕ → Bool) → (run_all body (opening_site ds es pushed) old).out ≡ Ok new)
 ran_ok es ds body steps names old new n s q e = (q, λ w pushed. opened es ds body steps names old pushed w n s q ∙ e)
 
 -- and one that stopped
 pub ran_err : (A B : Type 0) (es : List Shape) (ds : List Decl) (body steps : Statements) (names : Names) (old new : Cells) (e : RunStop) → names ≡ names_of es ds → steps ≡ body
-    → are_sequential body ≡ true → Ran {A = A} (Err e) new (run_all steps (scene_site names) old).out → RunsSequentially {A = B} es ds body old new (Err (of_stop e))
+    → are_sequential body ≡ true → Ran {A = A} (Err e) new (run_all steps (table_site names) old).out → RunsSequentially {A = B} es ds body old new (Err (of_stop e))
 ran_err A B es ds body steps names old new (stop.Trap t) n s q e = (q, λ w pushed. opened es ds body steps names old pushed w n s q ∙ e)
 ran_err A B es ds body steps names old new stop.Memory n s q e = tt

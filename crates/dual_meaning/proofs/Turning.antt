@@ -6,16 +6,16 @@ use Rattle.fl_ast.specs.Tree.{Expression, Designator, assignment, loop, Statemen
 use Rattle.fl_types.specs.declared.increment.IncrementForm.{IncrementForm}
 use Rattle.fl_types.specs.Increment.{increment_terms}
 use Rattle.store_core.specs.Keys.{place_in_slot}
-use Rattle.dual_meaning.specs.declared.value.Value.TheVariants.{Index}
-use Rattle.dual_meaning.specs.declared.value.TrapAt.{TrapAt}
-use Rattle.dual_meaning.specs.declared.value.Turns.{Turns}
-use Rattle.dual_meaning.specs.Logs.{Log, single, pushes, Told, ◌>>=◌, at_line}
-use Rattle.dual_meaning.specs.Sites.{Cells, Site, in_turn}
-use Rattle.dual_meaning.specs.Statements.{Run, noted, assigned, turns_of, value_at, set_at, turns, one_turn, loop_words, run_turns, in_arm, run, run_all}
-use Rattle.dual_meaning.specs.Sequential.{are_sequential}
-use Rattle.dual_meaning.specs.Scenes.{Names, scene_site, is_ring_in}
-use Rattle.dual_meaning.specs.Codes.{slot_name}
-use Rattle.dual_meaning.specs.Steps.{form_in, same_form}
+use Rattle.meaning.specs.declared.value.Value.TheVariants.{Index}
+use Rattle.meaning.specs.declared.value.TrapAt.{TrapAt}
+use Rattle.meaning.specs.declared.value.IterationCount.{IterationCount}
+use Rattle.meaning.specs.Logs.{Log, single, pushes, Traced, ◌>>=◌, at_line}
+use Rattle.meaning.specs.Sites.{Cells, Site, in_turn}
+use Rattle.meaning.specs.Statements.{Run, noted, assigned, turns_of, value_at, set_at, turns, one_turn, loop_words, run_turns, in_arm, run, run_all}
+use Rattle.meaning.specs.Sequential.{are_sequential}
+use Rattle.resolved.specs.SlotTables.{Names, table_site, is_ring_in}
+use Rattle.resolved.specs.Codes.{slot_name}
+use Rattle.resolved.specs.Steps.{form_in, same_form}
 use Rattle.dual_meaning.specs.declared.runner.RunStop.{RunStop}
 use Rattle.dual_meaning.specs.declared.runner.RunStop.TheVariants as stop
 use Rattle.dual_meaning.specs.Running.{by_form, Ran}
@@ -23,9 +23,9 @@ use Rattle.dual_meaning.proofs.Forms.{next, out_then, by_form_is}
 use Rattle.ring_core.specs.Index.{fits_index}
 use Rattle.dual_meaning.proofs.Counts.{computed}
 use Rattle.dual_meaning.proofs.Located.{place_by_slot}
-use Rattle.dual_meaning.proofs.RunsByKeys.{line_agree, run_all_agree}
+use Rattle.meaning.proofs.RunsByKeys.{line_agree, run_all_agree}
 
-noted_out : (t : Told TrapAt Cells) (l : Log) → (t >>= noted l).out ≡ t.out
+noted_out : (t : Traced TrapAt Cells) (l : Log) → (t >>= noted l).out ≡ t.out
 noted_out t l = out_then t (noted l) ∙ by_out t.out
   where
     by_out : (r : Result Cells TrapAt) → next r (λ c. (noted l c).out) ≡ r
@@ -37,12 +37,12 @@ in_arm_out m f c = noted_out (f c) (single (pushes m))
 
 -- an assignment
 pub assignment_run : (names : Names) (line : ℕ) (atomic : Bool) (p : Designator) (e : Expression) (cells : Cells) (form : Option IncrementForm) → same_form form (form_in names p e) ≡ true
-    → (run (assignment line atomic p e) (scene_site names) cells).out ≡ (at_line line (by_form form (scene_site names) cells p e)).out
+    → (run (assignment line atomic p e) (table_site names) cells).out ≡ (at_line line (by_form form (table_site names) cells p e)).out
 assignment_run names line atomic p e cells form h =
-    line_agree line (assigned (scene_site names) cells atomic p e (increment_terms (is_ring_in names) p e)) (by_form form (scene_site names) cells p e) (sym (by_form_is names cells atomic p e form h))
+    line_agree line (assigned (table_site names) cells atomic p e (increment_terms (is_ring_in names) p e)) (by_form form (table_site names) cells p e) (sym (by_form_is names cells atomic p e form h))
 
 -- a loop
-pub loop_run : (line number : ℕ) (var : List ℕ) (first last : Expression) (step : Option Expression) (body : Statements) (site : Site) (cells : Cells) (t : Turns)
+pub loop_run : (line number : ℕ) (var : List ℕ) (first last : Expression) (step : Option Expression) (body : Statements) (site : Site) (cells : Cells) (t : IterationCount)
     → (at_line line (turns_of first last step site cells)).out ≡ Ok t
     → (run (loop line number None var first last step body) site cells).out ≡ (turns t.count (one_turn site var t (run_all body)) cells).out
 loop_run line number var first last step body site cells t e =
@@ -75,22 +75,22 @@ pub turns_stop : (n k : ℕ) (f : ℕ → Run) (a b : Cells) (x : TrapAt) → k 
 turns_stop n k f a b x h e g = still n (suc k) f a x (omega arith) (turns_next k f a b e ∙ g)
 
 -- a turn runs the body with the variable set
-pub turn_run : (names : Names) (variable : ℕ) (t : Turns) (body : Statements) (k : ℕ) (cells : Cells) → variable < length names.0 → are_sequential body ≡ true
-    → (one_turn (scene_site names) (slot_name names.0 variable) t (run_all body) k cells).out
-    ≡ (run_all body (scene_site names) (set_at (place_in_slot names.0 variable []) (Some (Index (value_at t k))) cells)).out
+pub turn_run : (names : Names) (variable : ℕ) (t : IterationCount) (body : Statements) (k : ℕ) (cells : Cells) → variable < length names.0 → are_sequential body ≡ true
+    → (one_turn (table_site names) (slot_name names.0 variable) t (run_all body) k cells).out
+    ≡ (run_all body (table_site names) (set_at (place_in_slot names.0 variable []) (Some (Index (value_at t k))) cells)).out
 turn_run names variable t body k cells h q =
-    let site = scene_site names in
+    let site = table_site names in
     let var = slot_name names.0 variable in
     ap (λ o. (run_all body (in_turn site var) (set_at o (Some (Index (value_at t k))) cells)).out) (sym (place_by_slot names variable [] h))
     ∙ run_all_agree body q (in_turn site var) site (record { keys = refl; width = refl; ring = λ x. refl }) (set_at (place_in_slot names.0 variable []) (Some (Index (value_at t k))) cells)
 
 -- a stop in a turn is the loop's
-pub turns_ran : (A B : Type 0) (names : Names) (variable : ℕ) (t : Turns) (body : Statements) (k : ℕ) (a b d : Cells) (e : RunStop) → variable < length names.0 → are_sequential body ≡ true → k < t.count
-    → (turns k (one_turn (scene_site names) (slot_name names.0 variable) t (run_all body)) a).out ≡ Ok b
-    → Ran {A = A} (Err e) d (run_all body (scene_site names) (set_at (place_in_slot names.0 variable []) (Some (Index (value_at t k))) b)).out
-    → Ran {A = B} (Err e) d (turns t.count (one_turn (scene_site names) (slot_name names.0 variable) t (run_all body)) a).out
+pub turns_ran : (A B : Type 0) (names : Names) (variable : ℕ) (t : IterationCount) (body : Statements) (k : ℕ) (a b d : Cells) (e : RunStop) → variable < length names.0 → are_sequential body ≡ true → k < t.count
+    → (turns k (one_turn (table_site names) (slot_name names.0 variable) t (run_all body)) a).out ≡ Ok b
+    → Ran {A = A} (Err e) d (run_all body (table_site names) (set_at (place_in_slot names.0 variable []) (Some (Index (value_at t k))) b)).out
+    → Ran {A = B} (Err e) d (turns t.count (one_turn (table_site names) (slot_name names.0 variable) t (run_all body)) a).out
 turns_ran A B names variable t body k a b d (stop.Trap x) h q l e g =
-    turns_stop t.count k (one_turn (scene_site names) (slot_name names.0 variable) t (run_all body)) a b x l e (turn_run names variable t body k b h q ∙ g)
+    turns_stop t.count k (one_turn (table_site names) (slot_name names.0 variable) t (run_all body)) a b x l e (turn_run names variable t body k b h q ∙ g)
 turns_ran A B names variable t body k a b d stop.Memory h q l e g = tt
 
 -- the cells with the variable set, as the code computes its value

@@ -1,12 +1,12 @@
 -- What a call answers of an evaluation.
 use Rattle.std.specs.Prelude.{◌≡◌, ℕ, ℤ, List, ◌++◌, Option, Result, Ok, Err}
 use Rattle.fl_ast.specs.Tree.{Designator}
-use Rattle.dual_meaning.specs.declared.value.Value.{Value}
-use Rattle.dual_meaning.specs.declared.value.Cause.{Cause}
-use Rattle.dual_meaning.specs.Values.{wholes}
-use Rattle.dual_meaning.specs.Logs.{Told, pure, ◌>>=◌}
-use Rattle.dual_meaning.specs.Sites.{Cells, Site, place_of}
-use Rattle.dual_meaning.specs.Expressions.{values_of, read}
+use Rattle.meaning.specs.declared.value.Value.{Value}
+use Rattle.meaning.specs.declared.value.Cause.{Cause}
+use Rattle.meaning.specs.Values.{wholes}
+use Rattle.meaning.specs.Logs.{Traced, pure, ◌>>=◌}
+use Rattle.meaning.specs.Sites.{Cells, Site, place_of}
+use Rattle.meaning.specs.Expressions.{values_of, read}
 use Rattle.dual_meaning.specs.declared.evaluator.EvalStop.{EvalStop}
 use Rattle.dual_meaning.specs.declared.evaluator.EvalStop.TheVariants.{Trap, Memory}
 
@@ -28,11 +28,11 @@ numbers_of (Ok vs) = Ok (wholes vs)
 numbers_of (Err c) = Err c
 
 -- the place of an occurrence, None outside the bounds
-abbrev pub located : Site → Cells → Designator → Told Cause (Option ℕ)
+abbrev pub located : Site → Cells → Designator → Traced Cause (Option ℕ)
 located site cells p = values_of p.subscripts site cells >>= (λ subscripts. pure (place_of site p.name (wholes subscripts)))
 
 -- the value of an occurrence
-abbrev pub read_spot : Site → Cells → Designator → Told Cause Value
+abbrev pub read_spot : Site → Cells → Designator → Traced Cause Value
 read_spot site cells p = values_of p.subscripts site cells >>= read site cells p.name
 
 -- values that stand before others

@@ -7,44 +7,44 @@ use Rattle.fl_ast.specs.declared.kind.BinOp.TheVariants.{Add, Sub, Mul, Div}
 use Rattle.fl_ast.specs.Tree.{Expression, literal, get, minus, binary, power, call, Designator}
 use Rattle.fl_types.specs.declared.increment.IncrementForm.{IncrementForm}
 use Rattle.fl_types.specs.declared.increment.IncrementForm.TheVariants.{Chain, Sum}
-use Rattle.dual_meaning.specs.declared.value.Dual.{Dual}
-use Rattle.dual_meaning.specs.declared.value.Value.{Value}
-use Rattle.dual_meaning.specs.declared.value.Value.TheVariants.{Ring}
-use Rattle.dual_meaning.specs.declared.value.Cause.{Cause}
-use Rattle.dual_meaning.specs.declared.value.Cause.TheVariants.{Bounds, Unset}
-use Rattle.dual_meaning.specs.declared.value.TrapAt.{TrapAt}
-use Rattle.dual_meaning.specs.declared.value.Turns.{Turns}
+use Rattle.meaning.specs.declared.value.Dual.{Dual}
+use Rattle.meaning.specs.declared.value.Value.{Value}
+use Rattle.meaning.specs.declared.value.Value.TheVariants.{Ring}
+use Rattle.meaning.specs.declared.value.Cause.{Cause}
+use Rattle.meaning.specs.declared.value.Cause.TheVariants.{Bounds, Unset}
+use Rattle.meaning.specs.declared.value.TrapAt.{TrapAt}
+use Rattle.meaning.specs.declared.value.IterationCount.{IterationCount}
 use Rattle.dual_meaning.specs.declared.evaluator.EvalStop.{EvalStop}
 use Rattle.dual_meaning.specs.declared.evaluator.EvalStop.TheVariants as eval
 use Rattle.dual_meaning.specs.declared.runner.RunStop.{RunStop}
 use Rattle.dual_meaning.specs.declared.runner.RunStop.TheVariants as run
 use Rattle.store_core.specs.declared.layout.LayoutError.{LayoutError}
 use Rattle.store_core.specs.declared.layout.LayoutError.TheVariants as layout_error
-use Rattle.dual_meaning.specs.declared.resolve.ResolveError.{ResolveError}
-use Rattle.dual_meaning.specs.declared.resolve.ResolveError.TheVariants as resolve_error
+use Rattle.resolved.specs.declared.resolve.ResolveError.{ResolveError}
+use Rattle.resolved.specs.declared.resolve.ResolveError.TheVariants as resolve_error
 use Rattle.dual_meaning.specs.declared.sequential.RunError.{RunError}
 use Rattle.dual_meaning.specs.declared.sequential.RunError.TheVariants as failed
-use Rattle.dual_meaning.specs.Values.{dual_add, dual_sub, as_dual}
-use Rattle.dual_meaning.specs.Logs.{Told, pure, lift, ◌>>=◌}
-use Rattle.dual_meaning.specs.Sites.{Cells, Site}
-use Rattle.dual_meaning.specs.Expressions.{content, value_of}
-use Rattle.dual_meaning.specs.Statements.{put}
+use Rattle.meaning.specs.Values.{dual_add, dual_sub, as_dual}
+use Rattle.meaning.specs.Logs.{Traced, pure, lift, ◌>>=◌}
+use Rattle.meaning.specs.Sites.{Cells, Site}
+use Rattle.meaning.specs.Expressions.{content, value_of}
+use Rattle.meaning.specs.Statements.{put}
 use Rattle.dual_meaning.specs.Answers.{located}
 
 -- the subscripts, the check of bounds, and the store
-abbrev pub put_by : Site → Cells → Designator → Value → Told Cause Cells
+abbrev pub put_by : Site → Cells → Designator → Value → Traced Cause Cells
 put_by site cells p v = located site cells p >>= put site cells p.name v
 
-abbrev pub grow_cell_by : Cells → List ℕ → Dual → ℕ → Option Value → Told Cause Cells
+abbrev pub grow_cell_by : Cells → List ℕ → Dual → ℕ → Option Value → Traced Cause Cells
 grow_cell_by cells x d p None = lift (Err (Unset x))
 grow_cell_by cells x d p (Some v) = pure (slice_set cells p (Some (Ring (dual_add (as_dual v) d))))
 
-abbrev pub grow_at : Cells → List ℕ → Dual → Option ℕ → Told Cause Cells
+abbrev pub grow_at : Cells → List ℕ → Dual → Option ℕ → Traced Cause Cells
 grow_at cells x d None = lift (Err (Bounds x))
 grow_at cells x d (Some p) = grow_cell_by cells x d p (content cells p)
 
 -- the subscripts, the checks of bounds and of being set, and the update
-abbrev pub grow_by : Site → Cells → Designator → Dual → Told Cause Cells
+abbrev pub grow_by : Site → Cells → Designator → Dual → Traced Cause Cells
 grow_by site cells p d = located site cells p >>= grow_at cells p.name d
 
 abbrev pub summed : BinOp → Dual → Dual → Dual
@@ -57,7 +57,7 @@ abbrev pub no_sum : Dual
 no_sum = record { value = 0; tangent = 0 }
 
 -- the sum of a chain's terms after the first
-abbrev pub chain_sum : Expression → Site → Cells → Told Cause Dual
+abbrev pub chain_sum : Expression → Site → Cells → Traced Cause Dual
 chain_sum (binary op a b) site cells = chain_sum a site cells >>= (λ d. value_of b site cells >>= (λ v. pure (summed op d (as_dual v))))
 chain_sum (literal n k) site cells = pure no_sum
 chain_sum (get x s) site cells = pure no_sum
@@ -74,13 +74,13 @@ front (minus a) = minus a
 front (power a n) = power a n
 front (call f s) = call f s
 
-abbrev pub by_form : Option IncrementForm → Site → Cells → Designator → Expression → Told Cause Cells
+abbrev pub by_form : Option IncrementForm → Site → Cells → Designator → Expression → Traced Cause Cells
 by_form None site cells p e = value_of e site cells >>= (λ v. put_by site cells p v)
 by_form (Some Chain) site cells p e = chain_sum e site cells >>= (λ d. grow_by site cells p d)
 by_form (Some Sum) site cells p e = value_of (front e) site cells >>= (λ v. grow_by site cells p (as_dual v))
 
 -- bounds of the index kind, with the number of turns between them
-pub record IsCounted (t : Turns) : Type 0 where
+pub record IsCounted (t : IterationCount) : Type 0 where
   pub first : IsIndex t.first
   pub last : IsIndex t.last
   pub step : IsIndex t.step

@@ -1,19 +1,17 @@
 ghost use Rattle.std.specs.Prelude.{◌≡◌, true, IfOk, Err, length, ◌<◌};
 ghost use Rattle.fl_ast.specs.Tree.{minus, power as power_tree, call as call_tree};
-ghost use Rattle.dual_meaning.specs.Values.{literal_value, binary_result};
-ghost use Rattle.dual_meaning.specs.Expressions.{value_of, values_of, content, read_place, holds as holds_lem};
-ghost use Rattle.dual_meaning.specs.Scenes.{scene_site};
-ghost use Rattle.dual_meaning.specs.Codes.{code_back, codes_back, spot_back, test_back, slot_name, is_within, are_within, is_spot_within, is_test_within};
+ghost use Rattle.meaning.specs.Values.{literal_value, binary_result};
+ghost use Rattle.meaning.specs.Expressions.{value_of, values_of, content, read_place, holds as holds_lem};
+ghost use Rattle.resolved.specs.SlotTables.{table_site};
+ghost use Rattle.resolved.specs.Codes.{code_back, codes_back, spot_back, test_back, slot_name, is_within, are_within, is_spot_within, is_test_within};
 ghost use Rattle.dual_meaning.specs.Answers.{Answers, AnswersBy, numbers_of, located, read_spot};
-ghost use Rattle.dual_meaning.specs.declared.value.Cause.TheVariants.{Bounds as bounds, Unset as unset_name};
+ghost use Rattle.meaning.specs.declared.value.Cause.TheVariants.{Bounds as bounds, Unset as unset_name};
 ghost use Rattle.dual_meaning.specs.declared.evaluator.EvalStop.TheVariants.{Trap as trap, Memory as memory};
 
-use crate::arithmetic::{binary, called, literal, related};
-use crate::resolved::{Code, Spot, Test};
-use crate::scene::Scene;
-use crate::value::{Cause, Value};
 use fl_ast::{BinOp, Fun, Kind, Memory, Name};
 use fl_base::Items;
+use meaning::{Cause, Value, binary, called, literal, related};
+use resolved::{ResolvedCond, ResolvedExpr, ResolvedPlace, SlotTable};
 use smallvec::SmallVec;
 use std::alloc::{AllocError, AllocFailed, Global};
 
@@ -56,29 +54,29 @@ impl<T: Drop> From<AllocFailed<T>> for EvalStop {
     }
 }
 
-/// The value of an expression outside of parallel loops, over the cells of a scene. A call clears all
+/// The value of an expression outside of parallel loops, over the cells of a table. A call clears all
 /// locals of its function, and this one is called for every operand, so most forms have functions of their own.
 #[cycle(evaluate)]
 pub fn evaluate(
     alloc: Global,
-    scene: &Scene,
+    table: &SlotTable,
     cells: &[Option<Value>],
-    code: &Code,
+    code: &ResolvedExpr,
 ) -> Result<Value, EvalStop>
-    requires { is_within (length scene.now.0) code.now ≡ true }
-    ensures { Answers result (value_of (code_back scene.now.0 code.now) (scene_site scene.now) cells.now).out }
+    requires { is_within (length table.now.0) code.now ≡ true }
+    ensures { Answers result (value_of (code_back table.now.0 code.now) (table_site table.now) cells.now).out }
 {
     match code {
-        Code::Lit { word, kind } => constant(*word, *kind),
-        Code::Get(spot) => content_of(alloc, scene, cells, spot),
-        Code::Neg(inner) => negation(alloc, scene, cells, inner.get()),
-        Code::Bin { op, left, right } => {
-            let first = evaluate(alloc, scene, cells, left.get())?;
-            let second = evaluate(alloc, scene, cells, right.get())?;
+        ResolvedExpr::Lit { word, kind } => constant(*word, *kind),
+        ResolvedExpr::Get(spot) => content_of(alloc, table, cells, spot),
+        ResolvedExpr::Neg(inner) => negation(alloc, table, cells, inner.get()),
+        ResolvedExpr::Bin { op, left, right } => {
+            let first = evaluate(alloc, table, cells, left.get())?;
+            let second = evaluate(alloc, table, cells, right.get())?;
             operation(*op, first, second)
         }
-        Code::Pow { base, exponent } => power(alloc, scene, cells, base.get(), *exponent),
-        Code::Call { fun, args } => call(alloc, scene, cells, *fun, args.as_slice()),
+        ResolvedExpr::Pow { base, exponent } => power(alloc, table, cells, base.get(), *exponent),
+        ResolvedExpr::Call { fun, args } => call(alloc, table, cells, *fun, args.as_slice()),
     }
 }
 
@@ -91,28 +89,28 @@ fn constant(word: u64, kind: Kind) -> Result<Value, EvalStop>
 #[cycle(evaluate)]
 fn content_of(
     alloc: Global,
-    scene: &Scene,
+    table: &SlotTable,
     cells: &[Option<Value>],
-    spot: &Spot,
+    spot: &ResolvedPlace,
 ) -> Result<Value, EvalStop>
-    requires { is_spot_within (length scene.now.0) spot.now ≡ true }
-    ensures { Answers result (read_spot (scene_site scene.now) cells.now (spot_back scene.now.0 spot.now)).out }
+    requires { is_spot_within (length table.now.0) spot.now ≡ true }
+    ensures { Answers result (read_spot (table_site table.now) cells.now (spot_back table.now.0 spot.now)).out }
 {
-    let place = locate(alloc, scene, cells, spot)?;
-    read(alloc, scene, cells, spot.slot, place)
+    let place = locate(alloc, table, cells, spot)?;
+    read(alloc, table, cells, spot.slot, place)
 }
 
 #[cycle(evaluate)]
 fn negation(
     alloc: Global,
-    scene: &Scene,
+    table: &SlotTable,
     cells: &[Option<Value>],
-    inner: &Code,
+    inner: &ResolvedExpr,
 ) -> Result<Value, EvalStop>
-    requires { is_within (length scene.now.0) inner.now ≡ true }
-    ensures { Answers result (value_of (minus (code_back scene.now.0 inner.now)) (scene_site scene.now) cells.now).out }
+    requires { is_within (length table.now.0) inner.now ≡ true }
+    ensures { Answers result (value_of (minus (code_back table.now.0 inner.now)) (table_site table.now) cells.now).out }
 {
-    let value = evaluate(alloc, scene, cells, inner)?;
+    let value = evaluate(alloc, table, cells, inner)?;
     Ok(value.neg()?)
 }
 
@@ -125,41 +123,41 @@ fn operation(op: BinOp, first: Value, second: Value) -> Result<Value, EvalStop>
 #[cycle(evaluate)]
 fn power(
     alloc: Global,
-    scene: &Scene,
+    table: &SlotTable,
     cells: &[Option<Value>],
-    base: &Code,
+    base: &ResolvedExpr,
     exponent: u32,
 ) -> Result<Value, EvalStop>
-    requires { is_within (length scene.now.0) base.now ≡ true }
-    ensures { Answers result (value_of (power_tree (code_back scene.now.0 base.now) exponent) (scene_site scene.now) cells.now).out }
+    requires { is_within (length table.now.0) base.now ≡ true }
+    ensures { Answers result (value_of (power_tree (code_back table.now.0 base.now) exponent) (table_site table.now) cells.now).out }
 {
-    let value = evaluate(alloc, scene, cells, base)?;
+    let value = evaluate(alloc, table, cells, base)?;
     Ok(value.pow(exponent)?)
 }
 
 #[cycle(evaluate)]
 fn call(
     alloc: Global,
-    scene: &Scene,
+    table: &SlotTable,
     cells: &[Option<Value>],
     fun: Fun,
-    args: &[Code],
+    args: &[ResolvedExpr],
 ) -> Result<Value, EvalStop>
-    requires { are_within (length scene.now.0) args.now ≡ true }
-    ensures { Answers result (value_of (call_tree fun (codes_back scene.now.0 args.now)) (scene_site scene.now) cells.now).out }
+    requires { are_within (length table.now.0) args.now ≡ true }
+    ensures { Answers result (value_of (call_tree fun (codes_back table.now.0 args.now)) (table_site table.now) cells.now).out }
 {
     match args {
         [only] => {
-            let value = evaluate(alloc, scene, cells, only)?;
+            let value = evaluate(alloc, table, cells, only)?;
             Ok(called(fun, &[value])?)
         }
         [left, right] => {
-            let first = evaluate(alloc, scene, cells, left)?;
-            let second = evaluate(alloc, scene, cells, right)?;
+            let first = evaluate(alloc, table, cells, left)?;
+            let second = evaluate(alloc, table, cells, right)?;
             Ok(called(fun, &[first, second])?)
         }
         others => {
-            let values = evaluate_all(alloc, scene, cells, others)?;
+            let values = evaluate_all(alloc, table, cells, others)?;
             Ok(called(fun, values.as_slice())?)
         }
     }
@@ -168,16 +166,16 @@ fn call(
 #[cycle(evaluate)]
 fn evaluate_all(
     alloc: Global,
-    scene: &Scene,
+    table: &SlotTable,
     cells: &[Option<Value>],
-    codes: &[Code],
+    codes: &[ResolvedExpr],
 ) -> Result<Items<Value>, EvalStop>
-    requires { are_within (length scene.now.0) codes.now ≡ true }
-    ensures { Answers result (values_of (codes_back scene.now.0 codes.now) (scene_site scene.now) cells.now).out }
+    requires { are_within (length table.now.0) codes.now ≡ true }
+    ensures { Answers result (values_of (codes_back table.now.0 codes.now) (table_site table.now) cells.now).out }
 {
     let mut all = Items::new(alloc);
     for code in codes {
-        let value = evaluate(alloc, scene, cells, code)?;
+        let value = evaluate(alloc, table, cells, code)?;
         all.push(value)?;
     }
     Ok(all)
@@ -187,17 +185,17 @@ fn evaluate_all(
 #[cycle(evaluate)]
 fn evaluate_subscripts(
     alloc: Global,
-    scene: &Scene,
+    table: &SlotTable,
     cells: &[Option<Value>],
-    codes: &[Code],
+    codes: &[ResolvedExpr],
 ) -> Result<SmallVec<i64, 3>, EvalStop>
-    requires { are_within (length scene.now.0) codes.now ≡ true }
+    requires { are_within (length table.now.0) codes.now ≡ true }
     ensures { AnswersBy (λ numbers. numbers.items) result
-        (numbers_of (values_of (codes_back scene.now.0 codes.now) (scene_site scene.now) cells.now).out) }
+        (numbers_of (values_of (codes_back table.now.0 codes.now) (table_site table.now) cells.now).out) }
 {
     let mut numbers = SmallVec::new(alloc);
     for code in codes {
-        let value = evaluate(alloc, scene, cells, code)?;
+        let value = evaluate(alloc, table, cells, code)?;
         numbers.push(i64::from(value.whole()))?;
     }
     Ok(numbers)
@@ -207,17 +205,17 @@ fn evaluate_subscripts(
 #[cycle(evaluate)]
 pub(crate) fn locate(
     alloc: Global,
-    scene: &Scene,
+    table: &SlotTable,
     cells: &[Option<Value>],
-    spot: &Spot,
+    spot: &ResolvedPlace,
 ) -> Result<Option<u32>, EvalStop>
-    requires { is_spot_within (length scene.now.0) spot.now ≡ true }
-    ensures { Answers result (located (scene_site scene.now) cells.now (spot_back scene.now.0 spot.now)).out }
+    requires { is_spot_within (length table.now.0) spot.now ≡ true }
+    ensures { Answers result (located (table_site table.now) cells.now (spot_back table.now.0 spot.now)).out }
 {
     if spot.subscripts.is_empty() {
-        Ok(scene.layout().place_in(spot.slot, &[]))
+        Ok(table.layout().place_in(spot.slot, &[]))
     } else {
-        locate_element(alloc, scene, cells, spot)
+        locate_element(alloc, table, cells, spot)
     }
 }
 
@@ -225,60 +223,64 @@ pub(crate) fn locate(
 #[cycle(evaluate)]
 fn locate_element(
     alloc: Global,
-    scene: &Scene,
+    table: &SlotTable,
     cells: &[Option<Value>],
-    spot: &Spot,
+    spot: &ResolvedPlace,
 ) -> Result<Option<u32>, EvalStop>
-    requires { is_spot_within (length scene.now.0) spot.now ≡ true }
-    ensures { Answers result (located (scene_site scene.now) cells.now (spot_back scene.now.0 spot.now)).out }
+    requires { is_spot_within (length table.now.0) spot.now ≡ true }
+    ensures { Answers result (located (table_site table.now) cells.now (spot_back table.now.0 spot.now)).out }
 {
-    let numbers = evaluate_subscripts(alloc, scene, cells, spot.subscripts.as_slice())?;
-    Ok(scene.layout().place_in(spot.slot, numbers.as_slice()))
+    let numbers = evaluate_subscripts(alloc, table, cells, spot.subscripts.as_slice())?;
+    Ok(table.layout().place_in(spot.slot, numbers.as_slice()))
 }
 
 /// The value at a place of the name of a slot.
 fn read(
     alloc: Global,
-    scene: &Scene,
+    table: &SlotTable,
     cells: &[Option<Value>],
     slot: usize,
     place: Option<u32>,
 ) -> Result<Value, EvalStop>
-    requires { slot < length scene.now.0 }
-    ensures { Answers result (read_place (scene_site scene.now) cells.now (slot_name scene.now.0 slot) place).out }
+    requires { slot < length table.now.0 }
+    ensures { Answers result (read_place (table_site table.now) cells.now (slot_name table.now.0 slot) place).out }
 {
     match place {
-        None => Err(out_of_bounds(alloc, scene, slot)?),
+        None => Err(out_of_bounds(alloc, table, slot)?),
         Some(place) => match cell(cells, place) {
             Some(value) => Ok(value),
-            None => Err(unset(alloc, scene, slot)?),
+            None => Err(unset(alloc, table, slot)?),
         },
     }
 }
 
 /// A subscript of the name of a slot is out of bounds.
-pub(crate) fn out_of_bounds(alloc: Global, scene: &Scene, slot: usize) -> Result<EvalStop, Memory>
-    requires { slot < length scene.now.0 }
-    ensures { IfOk result (λ stop. stop ≡ trap (bounds (slot_name scene.now.0 slot))) }
+pub(crate) fn out_of_bounds(
+    alloc: Global,
+    table: &SlotTable,
+    slot: usize,
+) -> Result<EvalStop, Memory>
+    requires { slot < length table.now.0 }
+    ensures { IfOk result (λ stop. stop ≡ trap (bounds (slot_name table.now.0 slot))) }
 {
-    let name = name_of(alloc, scene, slot)?;
+    let name = name_of(alloc, table, slot)?;
     Ok(EvalStop::Trap(Cause::Bounds { name }))
 }
 
 /// The name of a slot was read before it was set.
-pub(crate) fn unset(alloc: Global, scene: &Scene, slot: usize) -> Result<EvalStop, Memory>
-    requires { slot < length scene.now.0 }
-    ensures { IfOk result (λ stop. stop ≡ trap (unset_name (slot_name scene.now.0 slot))) }
+pub(crate) fn unset(alloc: Global, table: &SlotTable, slot: usize) -> Result<EvalStop, Memory>
+    requires { slot < length table.now.0 }
+    ensures { IfOk result (λ stop. stop ≡ trap (unset_name (slot_name table.now.0 slot))) }
 {
-    let name = name_of(alloc, scene, slot)?;
+    let name = name_of(alloc, table, slot)?;
     Ok(EvalStop::Trap(Cause::Unset { name }))
 }
 
-fn name_of(alloc: Global, scene: &Scene, slot: usize) -> Result<Name, Memory>
-    requires { slot < length scene.now.0 }
-    ensures { IfOk result (λ name. name ≡ slot_name scene.now.0 slot) }
+fn name_of(alloc: Global, table: &SlotTable, slot: usize) -> Result<Name, Memory>
+    requires { slot < length table.now.0 }
+    ensures { IfOk result (λ name. name ≡ slot_name table.now.0 slot) }
 {
-    scene.layout().shapes()[slot].name.clone(alloc)
+    table.layout().shapes()[slot].name.clone(alloc)
 }
 
 /// The content of a place.
@@ -295,31 +297,31 @@ pub(crate) fn cell(cells: &[Option<Value>], place: u32) -> Option<Value>
 /// Whether a condition holds; both sides of `.and.` and `.or.` are evaluated.
 pub fn holds(
     alloc: Global,
-    scene: &Scene,
+    table: &SlotTable,
     cells: &[Option<Value>],
-    test: &Test,
+    test: &ResolvedCond,
 ) -> Result<bool, EvalStop>
-    requires { is_test_within (length scene.now.0) test.now ≡ true }
-    ensures { Answers result (holds_lem (test_back scene.now.0 test.now) (scene_site scene.now) cells.now).out }
+    requires { is_test_within (length table.now.0) test.now ≡ true }
+    ensures { Answers result (holds_lem (test_back table.now.0 test.now) (table_site table.now) cells.now).out }
 {
     match test {
-        Test::Rel { op, left, right } => {
-            let first = evaluate(alloc, scene, cells, left)?;
-            let second = evaluate(alloc, scene, cells, right)?;
+        ResolvedCond::Rel { op, left, right } => {
+            let first = evaluate(alloc, table, cells, left)?;
+            let second = evaluate(alloc, table, cells, right)?;
             Ok(related(*op, first, second))
         }
-        Test::Not(inner) => {
-            let inner = holds(alloc, scene, cells, inner.get())?;
+        ResolvedCond::Not(inner) => {
+            let inner = holds(alloc, table, cells, inner.get())?;
             Ok(!inner)
         }
-        Test::And(left, right) => {
-            let first = holds(alloc, scene, cells, left.get())?;
-            let second = holds(alloc, scene, cells, right.get())?;
+        ResolvedCond::And(left, right) => {
+            let first = holds(alloc, table, cells, left.get())?;
+            let second = holds(alloc, table, cells, right.get())?;
             Ok(first && second)
         }
-        Test::Or(left, right) => {
-            let first = holds(alloc, scene, cells, left.get())?;
-            let second = holds(alloc, scene, cells, right.get())?;
+        ResolvedCond::Or(left, right) => {
+            let first = holds(alloc, table, cells, left.get())?;
+            let second = holds(alloc, table, cells, right.get())?;
             Ok(first || second)
         }
     }

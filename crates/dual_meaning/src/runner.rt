@@ -1,24 +1,23 @@
 ghost use Rattle.std.specs.Prelude.{◌≡◌, ◌≢◌, true, ◌<◌, Some, length, slice_set, pos, neg_ℤ, ◌+ℤ◌, ◌*ℤ◌, ◌≤ℤ◌, ◌^◌, int_div, IfOk};
 ghost use Rattle.ring_core.specs.Index.{IsIndex};
 ghost use Rattle.store_core.specs.Bounds.{clipped};
-ghost use Rattle.dual_meaning.specs.Logs.{at_line};
-ghost use Rattle.dual_meaning.specs.Expressions.{value_of, holds as holds_lem};
-ghost use Rattle.dual_meaning.specs.Statements.{turns_by, turns_of as turns_of_lem, step_value, set_at, one_turn, turns as turns_lem, run as run_lem, run_all};
-ghost use Rattle.dual_meaning.specs.Sequential.{is_sequential, are_sequential};
-ghost use Rattle.dual_meaning.specs.Scenes.{scene_site};
-ghost use Rattle.dual_meaning.specs.Codes.{code_back, spot_back, test_back, slot_name, is_within, is_spot_within, is_test_within};
-ghost use Rattle.dual_meaning.specs.Steps.{step_back, steps_back, option_back, is_option_within, is_fit, are_fit};
+ghost use Rattle.meaning.specs.Logs.{at_line};
+ghost use Rattle.meaning.specs.Expressions.{value_of, holds as holds_lem};
+ghost use Rattle.meaning.specs.Statements.{turns_by, turns_of as turns_of_lem, step_value, set_at, one_turn, turns as turns_lem, run as run_lem, run_all};
+ghost use Rattle.meaning.specs.Sequential.{is_sequential, are_sequential};
+ghost use Rattle.resolved.specs.SlotTables.{table_site};
+ghost use Rattle.resolved.specs.Codes.{code_back, spot_back, test_back, slot_name, is_within, is_spot_within, is_test_within};
+ghost use Rattle.resolved.specs.Steps.{step_back, steps_back, option_back, is_option_within, is_fit, are_fit};
 ghost use Rattle.dual_meaning.specs.Answers.{Answers};
 ghost use Rattle.dual_meaning.specs.Running.{put_by, grow_by, chain_sum, summed, front as front_lem, by_form, IsCounted, stopped as stopped_lem, Sets, Ran, AnswersAt};
-ghost use Rattle.dual_meaning.specs.declared.value.Value.TheVariants.{Index as index_value};
+ghost use Rattle.meaning.specs.declared.value.Value.TheVariants.{Index as index_value};
 ghost use Rattle.dual_meaning.specs.declared.runner.RunStop.TheVariants.{Memory as memory};
 
 use crate::evaluator::{EvalStop, cell, evaluate, holds, locate, out_of_bounds, unset};
-use crate::resolved::{Code, Spot, Step, Test};
-use crate::scene::Scene;
-use crate::value::{Cause, Dual, TrapAt, Turns, Value};
 use fl_ast::{BinOp, Memory};
 use fl_types::IncrementForm;
+use meaning::{Cause, Dual, IterationCount, TrapAt, Value};
+use resolved::{ResolvedCond, ResolvedExpr, ResolvedPlace, ResolvedStmt, SlotTable};
 use ring_core::{Index, Ring};
 use std::alloc::Global;
 
@@ -49,19 +48,19 @@ fn set(cells: &mut Vec<Option<Value>>, place: u32, value: Value)
 /// Sets a place to a value, converted to the kind of its name.
 fn put(
     alloc: Global,
-    scene: &Scene,
+    table: &SlotTable,
     cells: &mut Vec<Option<Value>>,
-    target: &Spot,
+    target: &ResolvedPlace,
     value: Value,
 ) -> Result<(), EvalStop>
-    requires { is_spot_within (length scene.now.0) target.now ≡ true }
+    requires { is_spot_within (length table.now.0) target.now ≡ true }
     ensures { Sets result cells.new.items
-        (put_by (scene_site scene.now) cells.old.items (spot_back scene.now.0 target.now) value).out }
+        (put_by (table_site table.now) cells.old.items (spot_back table.now.0 target.now) value).out }
 {
-    match locate(alloc, scene, cells, target)? {
-        None => Err(out_of_bounds(alloc, scene, target.slot)?),
+    match locate(alloc, table, cells, target)? {
+        None => Err(out_of_bounds(alloc, table, target.slot)?),
         Some(place) => {
-            set(cells, place, value.converted(scene.kind(target.slot)));
+            set(cells, place, value.converted(table.kind(target.slot)));
             Ok(())
         }
     }
@@ -70,19 +69,19 @@ fn put(
 /// Adds to a place, which has to be set.
 fn grow(
     alloc: Global,
-    scene: &Scene,
+    table: &SlotTable,
     cells: &mut Vec<Option<Value>>,
-    target: &Spot,
+    target: &ResolvedPlace,
     more: Dual,
 ) -> Result<(), EvalStop>
-    requires { is_spot_within (length scene.now.0) target.now ≡ true }
+    requires { is_spot_within (length table.now.0) target.now ≡ true }
     ensures { Sets result cells.new.items
-        (grow_by (scene_site scene.now) cells.old.items (spot_back scene.now.0 target.now) more).out }
+        (grow_by (table_site table.now) cells.old.items (spot_back table.now.0 target.now) more).out }
 {
-    match locate(alloc, scene, cells, target)? {
-        None => Err(out_of_bounds(alloc, scene, target.slot)?),
+    match locate(alloc, table, cells, target)? {
+        None => Err(out_of_bounds(alloc, table, target.slot)?),
         Some(place) => match cell(cells, place) {
-            None => Err(unset(alloc, scene, target.slot)?),
+            None => Err(unset(alloc, table, target.slot)?),
             Some(value) => {
                 set(cells, place, Value::Ring(value.as_dual().add(more)));
                 Ok(())
@@ -103,17 +102,17 @@ fn added(op: BinOp, sum: Dual, term: Dual) -> Dual
 /// The sum of a chain's terms after its first operand.
 fn sum_of_chain(
     alloc: Global,
-    scene: &Scene,
+    table: &SlotTable,
     cells: &[Option<Value>],
-    value: &Code,
+    value: &ResolvedExpr,
 ) -> Result<Dual, EvalStop>
-    requires { is_within (length scene.now.0) value.now ≡ true }
-    ensures { Answers result (chain_sum (code_back scene.now.0 value.now) (scene_site scene.now) cells.now).out }
+    requires { is_within (length table.now.0) value.now ≡ true }
+    ensures { Answers result (chain_sum (code_back table.now.0 value.now) (table_site table.now) cells.now).out }
 {
     match value {
-        Code::Bin { op, left, right } => {
-            let sum = sum_of_chain(alloc, scene, cells, left.get())?;
-            let term = evaluate(alloc, scene, cells, right.get())?;
+        ResolvedExpr::Bin { op, left, right } => {
+            let sum = sum_of_chain(alloc, table, cells, left.get())?;
+            let term = evaluate(alloc, table, cells, right.get())?;
             Ok(added(*op, sum, term.as_dual()))
         }
         _ => Ok(Dual::constant(Ring::of_word(0))),
@@ -123,44 +122,44 @@ fn sum_of_chain(
 /// The value of an operation's first operand.
 fn front(
     alloc: Global,
-    scene: &Scene,
+    table: &SlotTable,
     cells: &[Option<Value>],
-    value: &Code,
+    value: &ResolvedExpr,
 ) -> Result<Value, EvalStop>
-    requires { is_within (length scene.now.0) value.now ≡ true }
-    ensures { Answers result (value_of (front_lem (code_back scene.now.0 value.now)) (scene_site scene.now) cells.now).out }
+    requires { is_within (length table.now.0) value.now ≡ true }
+    ensures { Answers result (value_of (front_lem (code_back table.now.0 value.now)) (table_site table.now) cells.now).out }
 {
     match value {
-        Code::Bin { left, .. } => evaluate(alloc, scene, cells, left.get()),
-        _ => evaluate(alloc, scene, cells, value),
+        ResolvedExpr::Bin { left, .. } => evaluate(alloc, table, cells, left.get()),
+        _ => evaluate(alloc, table, cells, value),
     }
 }
 
 fn assign(
     alloc: Global,
-    scene: &Scene,
+    table: &SlotTable,
     cells: &mut Vec<Option<Value>>,
-    target: &Spot,
-    value: &Code,
+    target: &ResolvedPlace,
+    value: &ResolvedExpr,
     form: Option<IncrementForm>,
 ) -> Result<(), EvalStop>
-    requires target { is_spot_within (length scene.now.0) target.now ≡ true }
-    requires value { is_within (length scene.now.0) value.now ≡ true }
+    requires target { is_spot_within (length table.now.0) target.now ≡ true }
+    requires value { is_within (length table.now.0) value.now ≡ true }
     ensures { Sets result cells.new.items
-        (by_form form (scene_site scene.now) cells.old.items (spot_back scene.now.0 target.now) (code_back scene.now.0 value.now)).out }
+        (by_form form (table_site table.now) cells.old.items (spot_back table.now.0 target.now) (code_back table.now.0 value.now)).out }
 {
     match form {
         None => {
-            let value = evaluate(alloc, scene, cells, value)?;
-            put(alloc, scene, cells, target, value)
+            let value = evaluate(alloc, table, cells, value)?;
+            put(alloc, table, cells, target, value)
         }
         Some(IncrementForm::Chain) => {
-            let more = sum_of_chain(alloc, scene, cells, value)?;
-            grow(alloc, scene, cells, target, more)
+            let more = sum_of_chain(alloc, table, cells, value)?;
+            grow(alloc, table, cells, target, more)
         }
         Some(IncrementForm::Sum) => {
-            let more = front(alloc, scene, cells, value)?;
-            grow(alloc, scene, cells, target, more.as_dual())
+            let more = front(alloc, table, cells, value)?;
+            grow(alloc, table, cells, target, more.as_dual())
         }
     }
 }
@@ -187,7 +186,7 @@ fn turn_count(distance: i64, step: i64) -> u64
 }
 
 /// How often a loop with these bounds runs.
-fn turns_between(first: i32, last: i32, step: i32) -> Result<Turns, Cause>
+fn turns_between(first: i32, last: i32, step: i32) -> Result<IterationCount, Cause>
     ensures value { result ≡ (turns_by first last step).out }
     ensures counted { IfOk result IsCounted }
 {
@@ -196,7 +195,7 @@ fn turns_between(first: i32, last: i32, step: i32) -> Result<Turns, Cause>
     }
     let distance = i64::from(last) - i64::from(first) + i64::from(step);
     let count = turn_count(distance, i64::from(step));
-    Ok(Turns {
+    Ok(IterationCount {
         first,
         last,
         step,
@@ -206,37 +205,37 @@ fn turns_between(first: i32, last: i32, step: i32) -> Result<Turns, Cause>
 
 fn step_of(
     alloc: Global,
-    scene: &Scene,
+    table: &SlotTable,
     cells: &[Option<Value>],
-    step: &Option<Code>,
+    step: &Option<ResolvedExpr>,
 ) -> Result<Value, EvalStop>
-    requires { is_option_within (length scene.now.0) step.now ≡ true }
-    ensures { Answers result (step_value (option_back scene.now.0 step.now) (scene_site scene.now) cells.now).out }
+    requires { is_option_within (length table.now.0) step.now ≡ true }
+    ensures { Answers result (step_value (option_back table.now.0 step.now) (table_site table.now) cells.now).out }
 {
     match step {
         None => Ok(Value::Index(Index::of(1))),
-        Some(step) => evaluate(alloc, scene, cells, step),
+        Some(step) => evaluate(alloc, table, cells, step),
     }
 }
 
 fn turns_of(
     alloc: Global,
-    scene: &Scene,
+    table: &SlotTable,
     cells: &[Option<Value>],
-    first: &Code,
-    last: &Code,
-    step: &Option<Code>,
-) -> Result<Turns, EvalStop>
-    requires first { is_within (length scene.now.0) first.now ≡ true }
-    requires last { is_within (length scene.now.0) last.now ≡ true }
-    requires step { is_option_within (length scene.now.0) step.now ≡ true }
-    ensures value { Answers result (turns_of_lem (code_back scene.now.0 first.now) (code_back scene.now.0 last.now)
-        (option_back scene.now.0 step.now) (scene_site scene.now) cells.now).out }
+    first: &ResolvedExpr,
+    last: &ResolvedExpr,
+    step: &Option<ResolvedExpr>,
+) -> Result<IterationCount, EvalStop>
+    requires first { is_within (length table.now.0) first.now ≡ true }
+    requires last { is_within (length table.now.0) last.now ≡ true }
+    requires step { is_option_within (length table.now.0) step.now ≡ true }
+    ensures value { Answers result (turns_of_lem (code_back table.now.0 first.now) (code_back table.now.0 last.now)
+        (option_back table.now.0 step.now) (table_site table.now) cells.now).out }
     ensures counted { IfOk result IsCounted }
 {
-    let first = evaluate(alloc, scene, cells, first)?;
-    let last = evaluate(alloc, scene, cells, last)?;
-    let step = step_of(alloc, scene, cells, step)?;
+    let first = evaluate(alloc, table, cells, first)?;
+    let last = evaluate(alloc, table, cells, last)?;
+    let step = step_of(alloc, table, cells, step)?;
     Ok(turns_between(first.whole(), last.whole(), step.whole())?)
 }
 
@@ -252,15 +251,15 @@ fn stopped(line: u32, stop: EvalStop) -> RunStop
 
 fn test_at(
     alloc: Global,
-    scene: &Scene,
+    table: &SlotTable,
     cells: &[Option<Value>],
     line: u32,
-    test: &Test,
+    test: &ResolvedCond,
 ) -> Result<bool, RunStop>
-    requires { is_test_within (length scene.now.0) test.now ≡ true }
-    ensures { AnswersAt result (at_line line (holds_lem (test_back scene.now.0 test.now) (scene_site scene.now) cells.now)).out }
+    requires { is_test_within (length table.now.0) test.now ≡ true }
+    ensures { AnswersAt result (at_line line (holds_lem (test_back table.now.0 test.now) (table_site table.now) cells.now)).out }
 {
-    match holds(alloc, scene, cells, test) {
+    match holds(alloc, table, cells, test) {
         Ok(holds) => Ok(holds),
         Err(stop) => Err(stopped(line, stop)),
     }
@@ -268,21 +267,21 @@ fn test_at(
 
 fn turns_at(
     alloc: Global,
-    scene: &Scene,
+    table: &SlotTable,
     cells: &[Option<Value>],
     line: u32,
-    first: &Code,
-    last: &Code,
-    step: &Option<Code>,
-) -> Result<Turns, RunStop>
-    requires first { is_within (length scene.now.0) first.now ≡ true }
-    requires last { is_within (length scene.now.0) last.now ≡ true }
-    requires step { is_option_within (length scene.now.0) step.now ≡ true }
-    ensures value { AnswersAt result (at_line line (turns_of_lem (code_back scene.now.0 first.now) (code_back scene.now.0 last.now)
-        (option_back scene.now.0 step.now) (scene_site scene.now) cells.now)).out }
+    first: &ResolvedExpr,
+    last: &ResolvedExpr,
+    step: &Option<ResolvedExpr>,
+) -> Result<IterationCount, RunStop>
+    requires first { is_within (length table.now.0) first.now ≡ true }
+    requires last { is_within (length table.now.0) last.now ≡ true }
+    requires step { is_option_within (length table.now.0) step.now ≡ true }
+    ensures value { AnswersAt result (at_line line (turns_of_lem (code_back table.now.0 first.now) (code_back table.now.0 last.now)
+        (option_back table.now.0 step.now) (table_site table.now) cells.now)).out }
     ensures counted { IfOk result IsCounted }
 {
-    match turns_of(alloc, scene, cells, first, last, step) {
+    match turns_of(alloc, table, cells, first, last, step) {
         Ok(turns) => Ok(turns),
         Err(stop) => Err(stopped(line, stop)),
     }
@@ -290,19 +289,19 @@ fn turns_at(
 
 fn assign_at(
     alloc: Global,
-    scene: &Scene,
+    table: &SlotTable,
     cells: &mut Vec<Option<Value>>,
     line: u32,
-    target: &Spot,
-    value: &Code,
+    target: &ResolvedPlace,
+    value: &ResolvedExpr,
     form: Option<IncrementForm>,
 ) -> Result<(), RunStop>
-    requires target { is_spot_within (length scene.now.0) target.now ≡ true }
-    requires value { is_within (length scene.now.0) value.now ≡ true }
-    ensures { Ran result cells.new.items (at_line line (by_form form (scene_site scene.now) cells.old.items
-        (spot_back scene.now.0 target.now) (code_back scene.now.0 value.now))).out }
+    requires target { is_spot_within (length table.now.0) target.now ≡ true }
+    requires value { is_within (length table.now.0) value.now ≡ true }
+    ensures { Ran result cells.new.items (at_line line (by_form form (table_site table.now) cells.old.items
+        (spot_back table.now.0 target.now) (code_back table.now.0 value.now))).out }
 {
-    match assign(alloc, scene, cells, target, value, form) {
+    match assign(alloc, table, cells, target, value, form) {
         Ok(()) => Ok(()),
         Err(stop) => Err(stopped(line, stop)),
     }
@@ -355,31 +354,31 @@ fn begin_turn(cells: &mut Vec<Option<Value>>, place: Option<u32>, first: i32, st
 #[tactic(auto, using(crate::proofs::Turning::runs))]
 fn run_step(
     alloc: Global,
-    scene: &Scene,
+    table: &SlotTable,
     cells: &mut Vec<Option<Value>>,
-    step: &Step,
+    step: &ResolvedStmt,
 ) -> Result<(), RunStop>
-    requires fit { is_fit scene.now step.now ≡ true }
-    requires sequential { is_sequential (step_back scene.now.0 step.now) ≡ true }
-    ensures { Ran result cells.new.items (run_lem (step_back scene.now.0 step.now) (scene_site scene.now) cells.old.items).out }
+    requires fit { is_fit table.now step.now ≡ true }
+    requires sequential { is_sequential (step_back table.now.0 step.now) ≡ true }
+    ensures { Ran result cells.new.items (run_lem (step_back table.now.0 step.now) (table_site table.now) cells.old.items).out }
 {
     match step {
-        Step::Assign {
+        ResolvedStmt::Assign {
             line,
             target,
             value,
             form,
             ..
-        } => assign_at(alloc, scene, cells, *line, target, value, *form),
-        Step::If { line, arms, other } => {
+        } => assign_at(alloc, table, cells, *line, target, value, *form),
+        ResolvedStmt::If { line, arms, other } => {
             for arm in arms.as_slice() {
-                if test_at(alloc, scene, cells, *line, &arm.test)? {
-                    return run_steps(alloc, scene, cells, arm.body.as_slice());
+                if test_at(alloc, table, cells, *line, &arm.test)? {
+                    return run_steps(alloc, table, cells, arm.body.as_slice());
                 }
             }
-            run_steps(alloc, scene, cells, other.as_slice())
+            run_steps(alloc, table, cells, other.as_slice())
         }
-        Step::Do {
+        ResolvedStmt::Do {
             line,
             variable,
             first,
@@ -388,8 +387,8 @@ fn run_step(
             body,
             ..
         } => {
-            let turns = turns_at(alloc, scene, cells, *line, first, last, step)?;
-            run_turns(alloc, scene, cells, *variable, turns, body.as_slice())
+            let turns = turns_at(alloc, table, cells, *line, first, last, step)?;
+            run_turns(alloc, table, cells, *variable, turns, body.as_slice())
         }
     }
 }
@@ -399,23 +398,23 @@ fn run_step(
 #[tactic(auto, using(crate::proofs::Turning::runs))]
 fn run_turns(
     alloc: Global,
-    scene: &Scene,
+    table: &SlotTable,
     cells: &mut Vec<Option<Value>>,
     variable: usize,
-    turns: Turns,
-    body: &[Step],
+    turns: IterationCount,
+    body: &[ResolvedStmt],
 ) -> Result<(), RunStop>
-    requires variable { variable < length scene.now.0 }
+    requires variable { variable < length table.now.0 }
     requires counted { IsCounted turns }
-    requires fit { are_fit scene.now body.now ≡ true }
-    requires sequential { are_sequential (steps_back scene.now.0 body.now) ≡ true }
-    ensures { Ran result cells.new.items (turns_lem turns.count (one_turn (scene_site scene.now) (slot_name scene.now.0 variable)
-        turns (run_all (steps_back scene.now.0 body.now))) cells.old.items).out }
+    requires fit { are_fit table.now body.now ≡ true }
+    requires sequential { are_sequential (steps_back table.now.0 body.now) ≡ true }
+    ensures { Ran result cells.new.items (turns_lem turns.count (one_turn (table_site table.now) (slot_name table.now.0 variable)
+        turns (run_all (steps_back table.now.0 body.now))) cells.old.items).out }
 {
-    let place = scene.layout().place_in(variable, &[]);
+    let place = table.layout().place_in(variable, &[]);
     for turn in 0..turns.count {
         begin_turn(cells, place, turns.first, turns.step, turn);
-        run_steps(alloc, scene, cells, body)?;
+        run_steps(alloc, table, cells, body)?;
     }
     Ok(())
 }
@@ -425,16 +424,16 @@ fn run_turns(
 #[tactic(auto, using(crate::proofs::Turning::runs))]
 pub fn run_steps(
     alloc: Global,
-    scene: &Scene,
+    table: &SlotTable,
     cells: &mut Vec<Option<Value>>,
-    steps: &[Step],
+    steps: &[ResolvedStmt],
 ) -> Result<(), RunStop>
-    requires fit { are_fit scene.now steps.now ≡ true }
-    requires sequential { are_sequential (steps_back scene.now.0 steps.now) ≡ true }
-    ensures { Ran result cells.new.items (run_all (steps_back scene.now.0 steps.now) (scene_site scene.now) cells.old.items).out }
+    requires fit { are_fit table.now steps.now ≡ true }
+    requires sequential { are_sequential (steps_back table.now.0 steps.now) ≡ true }
+    ensures { Ran result cells.new.items (run_all (steps_back table.now.0 steps.now) (table_site table.now) cells.old.items).out }
 {
     for step in steps {
-        run_step(alloc, scene, cells, step)?;
+        run_step(alloc, table, cells, step)?;
     }
     Ok(())
 }

@@ -1,14 +1,12 @@
 ghost use Rattle.std.specs.Prelude.{◌≡◌};
 ghost use Rattle.fl_ast.specs.Tree.{stmt_trees};
-ghost use Rattle.dual_meaning.specs.Programs.{RunsSequentially};
+ghost use Rattle.dual_meaning.specs.Sequentially.{RunsSequentially};
 ghost use Rattle.dual_meaning.specs.Running.{of_layout, of_resolving, of_stop};
 
-use crate::resolve::ResolveError;
-use crate::resolve_steps::resolve_statements;
 use crate::runner::{RunStop, run_steps};
-use crate::scene::Scene;
-use crate::value::{TrapAt, Value};
 use fl_ast::{Decl, Stmt};
+use meaning::{TrapAt, Value};
+use resolved::{ResolveError, SlotTable, resolve_statements};
 use std::alloc::Global;
 use store_core::{Layout, LayoutError};
 
@@ -70,8 +68,8 @@ pub fn run_sequential(
 ) -> Result<(), RunError>
     ensures { RunsSequentially layout.now decls.now (stmt_trees body.now) cells.old.items cells.new.items result }
 {
-    let scene = Scene::of(alloc, layout, decls)?;
-    let steps = resolve_statements(alloc, &scene, body)?;
-    run_steps(alloc, &scene, cells, steps.as_slice())?;
+    let table = SlotTable::of(alloc, layout, decls)?;
+    let steps = resolve_statements(alloc, &table, body)?;
+    run_steps(alloc, &table, cells, steps.as_slice())?;
     Ok(())
 }

@@ -1,12 +1,11 @@
-use crate::{
-    Cause, Dual, EvalStop, ResolveError, RunError, Scene, Value, evaluate, holds,
-    resolve_expression, resolve_test, run_sequential,
-};
+use crate::{EvalStop, RunError, evaluate, holds, run_sequential};
 use fl_ast::{
     Arm, BinOp, Cond, Decl, Expr, Intent, Kind, Memory, Name, Place, Program, RelOp, Stmt,
 };
 use fl_base::{Boxed, Items};
 use fl_types::check;
+use meaning::{Cause, Dual, Value};
+use resolved::{ResolveError, SlotTable, resolve_expression, resolve_test};
 use ring_core::Ring;
 use std::alloc::Global;
 use std::test::Fail;
@@ -95,10 +94,10 @@ fn declared(alloc: Global) -> Result<Items<Decl>, Memory> {
     Ok(decls)
 }
 
-fn scene(alloc: Global) -> Result<Scene, Fail> {
+fn table(alloc: Global) -> Result<SlotTable, Fail> {
     let layout = layout(alloc)?;
     let decls = declared(alloc)?;
-    Ok(Scene::of(alloc, &layout, decls.as_slice())?)
+    Ok(SlotTable::of(alloc, &layout, decls.as_slice())?)
 }
 
 fn five() -> Option<Value> {
@@ -110,20 +109,20 @@ fn five() -> Option<Value> {
 
 /// What the sample gives where x has this content.
 fn found(alloc: Global, x: Option<Value>) -> Result<Result<Value, EvalStop>, Fail> {
-    let scene = scene(alloc)?;
-    let code = resolve_expression(alloc, scene.layout(), &sample(alloc)?)?;
-    Ok(evaluate(alloc, &scene, &[x, None], &code))
+    let table = table(alloc)?;
+    let code = resolve_expression(alloc, table.layout(), &sample(alloc)?)?;
+    Ok(evaluate(alloc, &table, &[x, None], &code))
 }
 
 fn is_small(alloc: Global) -> Result<bool, Fail> {
-    let scene = scene(alloc)?;
+    let table = table(alloc)?;
     let less = Cond::Rel {
         op: RelOp::Lt,
         left: get(alloc, b"x")?,
         right: number(3),
     };
-    let test = resolve_test(alloc, scene.layout(), &less)?;
-    Ok(holds(alloc, &scene, &[five(), None], &test)?)
+    let test = resolve_test(alloc, table.layout(), &less)?;
+    Ok(holds(alloc, &table, &[five(), None], &test)?)
 }
 
 #[test]
@@ -153,8 +152,8 @@ fn conditions(rt: HostRuntime) -> Result<(), Fail> {
 
 #[test]
 fn unplaced(rt: HostRuntime) -> Result<(), Fail> {
-    let scene = scene(rt.alloc())?;
-    let code = resolve_expression(rt.alloc(), scene.layout(), &get(rt.alloc(), b"z")?);
+    let table = table(rt.alloc())?;
+    let code = resolve_expression(rt.alloc(), table.layout(), &get(rt.alloc(), b"z")?);
     assert!(rt; matches!(&code, Err(ResolveError::Unplaced)));
     Ok(())
 }

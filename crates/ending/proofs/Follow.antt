@@ -9,10 +9,10 @@ use Rattle.outside.specs.Files.{Takes}
 use Rattle.ending.specs.declared.status.Status.TheVariants.{Done, ReadFault, OverLimit, NoFile}
 use Rattle.ending.specs.Plan.{Files, Plan, line, or_say}
 use Rattle.ending.specs.Plan.{Answers, Asks}
-use Rattle.ending.specs.Plan.{Comes}
+use Rattle.ending.specs.Plan.{LeadsTo}
 use Rattle.ending.specs.Plan.{said, untold, missing, long, read}
 use Rattle.outside.specs.declared.folder.TakeError.TheVariants.{Missing, TooLong}
-use Rattle.ending.specs.Stage.{Passes, IsFault, IsStage, IsSaid, IsPart, IsRefusal, Reaches, IsCommand, IsEnd}
+use Rattle.ending.specs.Stage.{Continues, IsFault, IsStage, IsSaid, IsPart, IsRefusal, Reaches, IsCommand, IsEnd}
 
 -- a count that rose has risen later on, and one that rises later has risen
 pub rose_on : (a b c : ℕ) → Rose a b → b ≤ c → Rose a c
@@ -22,7 +22,7 @@ pub rose_from : (a b c : ℕ) → a ≤ b → Rose b c → Rose a c
 rose_from a b c h rose = omega arith
 
 passes_on : {T A U B : Type 0} (view : T → A) (value : T) (other : U → B) (files : Files) (first : (A → Plan) → Plan) (second : A → (B → Plan) → Plan) (result : Result U Early) →
-    Passes view files first (Ok value) → Passes other files (second (view value)) result → Passes other files (λ rest. first (λ a. second a rest)) result
+    Continues view files first (Ok value) → Continues other files (second (view value)) result → Continues other files (λ rest. first (λ a. second a rest)) result
 passes_on view value other files first second (Ok u) h k = λ rest status text comes. h (λ a. second a rest) status text (k rest status text comes)
 passes_on view value other files first second (Err (Said due)) h k = λ rest. h (λ a. second a rest) due.status due.text.items (k rest)
 passes_on view value other files first second (Err Memory) h k = tt
@@ -40,7 +40,7 @@ goes_on {view = view} {value = value} {other = other} {f0 = f0} {f1 = f1} {f2 = 
 }
 
 passes_ends : {T A U B : Type 0} (view : T → A) (other : U → B) (files : Files) (first : (A → Plan) → Plan) (second : A → (B → Plan) → Plan) (early : Early) →
-    Passes view files first (Err early) → Passes other files (λ rest. first (λ a. second a rest)) (Err early)
+    Continues view files first (Err early) → Continues other files (λ rest. first (λ a. second a rest)) (Err early)
 passes_ends view other files first second (Said due) h = λ rest. h (λ a. second a rest)
 passes_ends view other files first second Memory h = tt
 
@@ -61,7 +61,7 @@ ends {T = T} {U = U} {view = view} {other = other} {first = first} {second = sec
 
 -- a stage that takes no file
 pub takes_none : {T A : Type 0} {view : T → A} {before : Option Files} {f : ℕ} {stage : (A → Plan) → Plan} {result : Result T Early} →
-    (IsFault result → ⊥) → ((files : Files) → Passes view files stage result) → IsStage view before before f f stage result
+    (IsFault result → ⊥) → ((files : Files) → Continues view files stage result) → IsStage view before before f f stage result
 takes_none clear told = record {
   same = refl;
   counted = omega arith;
@@ -77,7 +77,7 @@ takes_of (Some held) name limit result told files e =
     let P : Option Files → Type 0 = λ o. IfSome o (λ there. Takes (there name) limit result) in subst P e told
 
 passes_said : {T A : Type 0} (view : T → A) (files : Files) (stage : (A → Plan) → Plan) (status : Status) (text : List ℕ) (early : Early) →
-    IsSaid status text early → ((rest : A → Plan) → Comes files (stage rest) status text) → Passes view files stage (Err early)
+    IsSaid status text early → ((rest : A → Plan) → LeadsTo files (stage rest) status text) → Continues view files stage (Err early)
 passes_said view files stage status text (Said due) is comes = λ rest. rw (is.0, is.1) (comes rest)
 passes_said view files stage status text Memory is comes = tt
 
@@ -88,7 +88,7 @@ fault_said T status text Memory is h = absurd h
 -- an answer that is said is an early end
 pub says : {T A : Type 0} {view : T → A} {before after : Option Files} {f0 f1 : ℕ} {stage : (A → Plan) → Plan} {status : Status} {text : List ℕ} {early : Early} →
     IsSaid status text early → after ≡ before → f0 ≤ f1 → (status ≡ ReadFault → Rose f0 f1) →
-    ((files : Files) → before ≡ Some files → (rest : A → Plan) → Comes files (stage rest) status text) →
+    ((files : Files) → before ≡ Some files → (rest : A → Plan) → LeadsTo files (stage rest) status text) →
     IsStage view before after f0 f1 stage (Err early)
 says {T = T} {view = view} {stage = stage} {status = status} {text = text} {early = early} is same counted rose comes = record {
   same = same;
@@ -98,19 +98,19 @@ says {T = T} {view = view} {stage = stage} {status = status} {text = text} {earl
 }
 
 pub took : {before : Option Files} {name : List ℕ} {limit : ℕ} (over : List ℕ) (bytes : Vec ℕ Global) → IfSome before (λ files. Takes (files name) limit (Ok bytes)) →
-    (files : Files) → before ≡ Some files → Passes (λ b. b.items) files (Asks name limit over) (Ok bytes)
+    (files : Files) → before ≡ Some files → Continues (λ b. b.items) files (Asks name limit over) (Ok bytes)
 took {before = before} {name = name} {limit = limit} over bytes told files e = λ rest status text comes.
     let h : (files name ≡ Some bytes.items) × (length bytes.items ≤ limit) = takes_of before name limit (Ok bytes) told files e in
     read bytes.items h.0 h.1 comes
 
 pub too_long : {before : Option Files} {name : List ℕ} {limit : ℕ} (over : List ℕ) → IfSome before (λ files. Takes (files name) limit (Err TooLong)) →
-    (files : Files) → before ≡ Some files → (rest : List ℕ → Plan) → Comes files (Asks name limit over rest) OverLimit over
+    (files : Files) → before ≡ Some files → (rest : List ℕ → Plan) → LeadsTo files (Asks name limit over rest) OverLimit over
 too_long {before = before} {name = name} {limit = limit} over told files e rest =
     let h : (bytes : List ℕ) × (files name ≡ Some bytes) × (limit < length bytes) = takes_of before name limit (Err TooLong) told files e in
     long h.0 h.1 h.2
 
 pub not_there : {before : Option Files} {name : List ℕ} {limit : ℕ} (over : List ℕ) → IfSome before (λ files. Takes (files name) limit (Err Missing)) →
-    (files : Files) → before ≡ Some files → (rest : List ℕ → Plan) → Comes files (Asks name limit over rest) NoFile (line (codes "no file ") name)
+    (files : Files) → before ≡ Some files → (rest : List ℕ → Plan) → LeadsTo files (Asks name limit over rest) NoFile (line (codes "no file ") name)
 not_there {before = before} {name = name} {limit = limit} over told files e rest = missing (takes_of before name limit (Err Missing) told files e)
 
 -- a `?` hands an early end on
@@ -129,11 +129,11 @@ pub finds : {T A E : Type 0} {view : T → A} (say : E → Status × List ℕ) (
 finds {view = view} say found {value = value} e = record {
   clear = λ h. h;
   told = λ files rest status text comes.
-      let P : _ → Type 0 = λ o. Comes files (or_say say o rest) status text in subst P (sym e) comes;
+      let P : _ → Type 0 = λ o. LeadsTo files (or_say say o rest) status text in subst P (sym e) comes;
 }
 
-comes_refused : {A E : Type 0} (view : E) (say : E → Status × List ℕ) (found : Result A E) (error : E) (files : Files) (rest : A → Plan) → found ≡ Err error → Comes files (or_say say found rest) (say error).0 (say error).1
-comes_refused view say found error files rest e = let P : _ → Type 0 = λ o. Comes files (or_say say o rest) (say error).0 (say error).1 in subst P (sym e) said
+comes_refused : {A E : Type 0} (view : E) (say : E → Status × List ℕ) (found : Result A E) (error : E) (files : Files) (rest : A → Plan) → found ≡ Err error → LeadsTo files (or_say say found rest) (say error).0 (say error).1
+comes_refused view say found error files rest e = let P : _ → Type 0 = λ o. LeadsTo files (or_say say o rest) (say error).0 (say error).1 in subst P (sym e) said
 
 -- and one that finds an error
 pub refuses : {T A E : Type 0} {view : T → A} (memory : E) (say : E → Status × List ℕ) (found : Result A E) (error : E) {early : Early} →
@@ -150,7 +150,7 @@ pub gives : {T A : Type 0} {view : T → A} (a : A) {value : T} → view value �
 gives {view = view} a {value = value} e = record {
   clear = λ h. h;
   told = λ files rest status text comes.
-      let P : _ → Type 0 = λ x. Comes files (rest x) status text in subst P e comes;
+      let P : _ → Type 0 = λ x. LeadsTo files (rest x) status text in subst P e comes;
 }
 
 -- a part as a stage
@@ -169,7 +169,7 @@ pub ends_part : {T A U B : Type 0} {view : T → A} {other : U → B} {before : 
 ends_part {second = second} p e = ends_at {second = second} (stands p) e
 
 reaches_on : {T A : Type 0} (view : T → A) (value : T) (files : Files) (first : (A → Plan) → Plan) (second : A → Plan) (result : Result (Vec ℕ Global) Early) →
-    Passes view files first (Ok value) → Reaches files (second (view value)) result → Reaches files (first second) result
+    Continues view files first (Ok value) → Reaches files (second (view value)) result → Reaches files (first second) result
 reaches_on view value files first second (Ok text) h k = h second Done text.items k
 reaches_on view value files first second (Err (Said due)) h k = h second due.status due.text.items k
 reaches_on view value files first second (Err Memory) h k = tt
@@ -187,7 +187,7 @@ comes_to {view = view} {value = value} {f0 = f0} {f1 = f1} {f2 = f2} {first = fi
 }
 
 reaches_end : {T A : Type 0} (view : T → A) (files : Files) (first : (A → Plan) → Plan) (second : A → Plan) (early : Early) →
-    Passes view files first (Err early) → Reaches files (first second) (Err early)
+    Continues view files first (Err early) → Reaches files (first second) (Err early)
 reaches_end view files first second (Said due) h = h second
 reaches_end view files first second Memory h = tt
 

@@ -4,11 +4,11 @@ use Rattle.std.specs.Prelude.{◌++◌}
 use Rattle.std.proofs.lemmas.Bool.Decides.{nat_tests}
 use Rattle.ending.specs.declared.status.Status.{Status}
 use Rattle.ending.specs.declared.status.Status.TheVariants.{ReadFault}
-use Rattle.ending.specs.Plan.{Files, Plan, Comes, said, untold, fault, missing, long, read, due, Fits}
+use Rattle.ending.specs.Plan.{Files, Plan, LeadsTo, said, untold, fault, missing, long, read, due, Fits}
 use Rattle.ending.specs.Ends.{comes, wanting, Ends, whole, cut, IsExact, IsComplete}
 
 -- what comes of a plan is a read fault or fits the one answer that is due
-pub at_most_one : {files : Files} {plan : Plan} {status : Status} {text : List ℕ} → Comes files plan status text →
+pub at_most_one : {files : Files} {plan : Plan} {status : Status} {text : List ℕ} → LeadsTo files plan status text →
     (status ≡ ReadFault) ⊎ Fits (due files plan) status text
 unfolding due
 at_most_one said = inr (refl, refl)

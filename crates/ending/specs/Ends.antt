@@ -6,7 +6,7 @@ use Rattle.ending.specs.declared.early.Early.TheVariants.{Said, Memory}
 use Rattle.outside.specs.Causes.{Rose}
 use Rattle.ending.specs.declared.status.Status.{Status}
 use Rattle.ending.specs.declared.status.Status.TheVariants.{Done, NoFile, NoMemory, ReadFault, WriteFault}
-use Rattle.ending.specs.Plan.{Files, Plan, Comes, due, line}
+use Rattle.ending.specs.Plan.{Files, Plan, LeadsTo, due, line}
 
 -- the sink has taken the whole text, or a front of it with a fault
 abbrev pub Puts : Option (List ℕ) → Option (List ℕ) → ℕ → ℕ → List ℕ → Bool → Type 0
@@ -21,7 +21,7 @@ pub data IsPut (before after : Option (List ℕ)) (faults later : ℕ) (status :
 
 -- what is due: what comes of the plan, or that memory is wanting
 pub data IsDue (files : Files) (plan : Plan) : Status → List ℕ → Type 0 where
-  comes : {status : Status} {text : List ℕ} → Comes files plan status text → IsDue files plan status text
+  comes : {status : Status} {text : List ℕ} → LeadsTo files plan status text → IsDue files plan status text
   wanting : IsDue files plan NoMemory (codes "no memory\n")
 
 -- a call ends with a status and its whole text, or with a write fault and a front of a text

@@ -23,19 +23,19 @@ or_say say (Ok value) next = next value
 or_say say (Err error) next = Says (say error).0 (say error).1
 
 -- a status with its text comes of a plan over these files
-pub data Comes (files : Files) : Plan → Status → List ℕ → Type 0 where
-  said : {status : Status} {text : List ℕ} → Comes files (Says status text) status text
-  untold : {status : Status} {text : List ℕ} → Comes files (Answers status) status text
+pub data LeadsTo (files : Files) : Plan → Status → List ℕ → Type 0 where
+  said : {status : Status} {text : List ℕ} → LeadsTo files (Says status text) status text
+  untold : {status : Status} {text : List ℕ} → LeadsTo files (Answers status) status text
   fault : {name : List ℕ} {limit : ℕ} {over : List ℕ} {next : List ℕ → Plan} →
-      Comes files (Asks name limit over next) ReadFault (line (codes "read fault ") name)
+      LeadsTo files (Asks name limit over next) ReadFault (line (codes "read fault ") name)
   missing : {name : List ℕ} {limit : ℕ} {over : List ℕ} {next : List ℕ → Plan} →
-      files name ≡ None → Comes files (Asks name limit over next) NoFile (line (codes "no file ") name)
+      files name ≡ None → LeadsTo files (Asks name limit over next) NoFile (line (codes "no file ") name)
   long : {name : List ℕ} {limit : ℕ} {over : List ℕ} {next : List ℕ → Plan} (bytes : List ℕ) →
       files name ≡ Some bytes → limit < length bytes →
-      Comes files (Asks name limit over next) OverLimit over
+      LeadsTo files (Asks name limit over next) OverLimit over
   read : {name : List ℕ} {limit : ℕ} {over : List ℕ} {next : List ℕ → Plan} {status : Status} {text : List ℕ} (bytes : List ℕ) →
-      files name ≡ Some bytes → length bytes ≤ limit → Comes files (next bytes) status text →
-      Comes files (Asks name limit over next) status text
+      files name ≡ Some bytes → length bytes ≤ limit → LeadsTo files (next bytes) status text →
+      LeadsTo files (Asks name limit over next) status text
 
 -- what is due: a status, and its text where that is told
 abbrev pub Answer : Type 0

@@ -6,7 +6,7 @@ use Rattle.ending.specs.declared.status.Status.{Status}
 use Rattle.ending.specs.declared.status.Status.TheVariants.{Done, ReadFault}
 use Rattle.ending.specs.declared.early.Early.{Early}
 use Rattle.ending.specs.declared.early.Early.TheVariants.{Said, Memory}
-use Rattle.ending.specs.Plan.{Files, Plan, Comes}
+use Rattle.ending.specs.Plan.{Files, Plan, LeadsTo}
 
 -- the answer with this status and text, or want of memory
 abbrev pub IsSaid : Status → List ℕ → Early → Type 0
@@ -25,28 +25,28 @@ IsFault (Err (Said due)) = due.status ≡ ReadFault
 IsFault (Err Memory) = ⊥
 
 -- a value leads on to the rest of the plan, whatever that is; an early end comes of the plan, whatever the rest is
-abbrev pub Passes : {T A : Type 0} → (T → A) → Files → ((A → Plan) → Plan) → Result T Early → Type 0
-Passes view files stage (Ok value) =
-    (rest : _) (status : Status) (text : List ℕ) → Comes files (rest (view value)) status text → Comes files (stage rest) status text
-Passes view files stage (Err (Said due)) = (rest : _) → Comes files (stage rest) due.status due.text.items
-Passes view files stage (Err Memory) = Unit {0}
+abbrev pub Continues : {T A : Type 0} → (T → A) → Files → ((A → Plan) → Plan) → Result T Early → Type 0
+Continues view files stage (Ok value) =
+    (rest : _) (status : Status) (text : List ℕ) → LeadsTo files (rest (view value)) status text → LeadsTo files (stage rest) status text
+Continues view files stage (Err (Said due)) = (rest : _) → LeadsTo files (stage rest) due.status due.text.items
+Continues view files stage (Err Memory) = Unit {0}
 
 -- a stage over a folder: the contents and the count of faults before and after
 pub record IsStage {T A : Type 0} (view : T → A) (before after : Option Files) (faults later : ℕ) (stage : (A → Plan) → Plan) (result : Result T Early) : Type 0 where
   pub same : after ≡ before
   pub counted : faults ≤ later
   pub rose : IsFault result → Rose faults later
-  pub told : (files : Files) → before ≡ Some files → Passes view files stage result
+  pub told : (files : Files) → before ≡ Some files → Continues view files stage result
 
 -- a stage that takes no file
 pub record IsPart {T A : Type 0} (view : T → A) (stage : (A → Plan) → Plan) (result : Result T Early) : Type 0 where
   pub clear : IsFault result → ⊥
-  pub told : (files : Files) → Passes view files stage result
+  pub told : (files : Files) → Continues view files stage result
 
 -- a command comes to an end of its plan
 abbrev pub Reaches : Files → Plan → Result (Vec ℕ Global) Early → Type 0
-Reaches files plan (Ok text) = Comes files plan Done text.items
-Reaches files plan (Err (Said due)) = Comes files plan due.status due.text.items
+Reaches files plan (Ok text) = LeadsTo files plan Done text.items
+Reaches files plan (Err (Said due)) = LeadsTo files plan due.status due.text.items
 Reaches files plan (Err Memory) = Unit {0}
 
 -- a command over a folder: the contents and the count of faults before and after

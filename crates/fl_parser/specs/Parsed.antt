@@ -10,20 +10,20 @@ use Rattle.parsing.specs.declared.fault.Fault.{Fault}
 use Rattle.parsing.specs.Refusal.{all_of}
 use Rattle.fl_parser.specs.declared.error.ParseError.{ParseError}
 use Rattle.fl_parser.specs.declared.error.ParseError.TheVariants.{Expected, Deep, Many}
-use Rattle.fl_parser.specs.declared.error.Spot.{Spot}
+use Rattle.fl_parser.specs.declared.error.Position.{Position}
 use Rattle.fl_parser.specs.Trees.{the_limits}
 use Rattle.fl_parser.specs.UnitReading.{unit}
 
 -- where one more byte of the text would be
-abbrev pub end_of : List ℕ → Spot
+abbrev pub end_of : List ℕ → Position
 end_of text = record { line = count_by (λ b. b == 10) text + 1; col = prefix_len (λ b. not (b == 10)) (reverse text) + 1 }
 
 -- where the token is, or the end of the text
-abbrev pub spot_of : List ℕ → Option Token → Spot
+abbrev pub spot_of : List ℕ → Option Token → Position
 spot_of text None = end_of text
 spot_of text (Some t) = record { line = t.line; col = t.col }
 
-abbrev pub error_by : Cause → Spot → ParseError
+abbrev pub error_by : Cause → Position → ParseError
 error_by cause.Expected spot = Expected spot.line spot.col
 error_by cause.Deep spot = Deep spot.line
 error_by cause.Many spot = Many spot.line

@@ -20,13 +20,13 @@ pub enum ParseError {
 
 /// A line and a column, both counted from 1.
 #[derive(Clone, Copy, Debug, PartialEq, Eq)]
-pub struct Spot {
+pub struct Position {
     pub line: u32,
     pub col: u32,
 }
 
 /// Where one more byte of the text would be.
-fn end_of(text: &[u8]) -> Spot
+fn end_of(text: &[u8]) -> Position
     requires { length text.now + 1 < 2 ^ 32 }
     ensures { result ≡ spec.end_of text.now }
 {
@@ -40,15 +40,15 @@ fn end_of(text: &[u8]) -> Spot
             col += 1;
         }
     }
-    Spot { line, col }
+    Position { line, col }
 }
 
-fn spot_at(text: &[u8], tokens: &[Token], at: usize) -> Spot
+fn spot_at(text: &[u8], tokens: &[Token], at: usize) -> Position
     requires { length text.now + 1 < 2 ^ 32 }
     ensures { result ≡ spec.spot_of text.now (slice_get tokens.now at) }
 {
     match tokens.get(at) {
-        Some(token) => Spot {
+        Some(token) => Position {
             line: token.line,
             col: token.col,
         },

@@ -3,8 +3,8 @@ use Rattle.std.specs.Prelude.{Result, Ok, Err, if◌then◌else◌}
 use Rattle.fl_ast.specs.declared.stmt.Program.{Program}
 use Rattle.fl_types.specs.declared.typed.TypeError.{TypeError}
 use Rattle.fl_types.specs.declared.typed.TypeError.TheVariants.{NotBuilt}
-use Rattle.fl_types.specs.Built.{is_built}
+use Rattle.fl_types.specs.Supported.{is_supported}
 
 -- the program, where all of it is built
 unfoldable pub checked : Program → Result Program TypeError
-checked program = if is_built program then Ok program else Err NotBuilt
+checked program = if is_supported program then Ok program else Err NotBuilt

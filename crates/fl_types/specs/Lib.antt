@@ -1,4 +1,4 @@
-pub mod Built
+pub mod Supported
 pub mod Checked
 pub mod Increment
 pub mod Sharing

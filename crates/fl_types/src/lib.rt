@@ -2,10 +2,10 @@
 #![tactic(auto)]
 
 mod access;
-mod built;
 mod choice;
 mod increment;
 mod sharing;
+mod supported;
 mod typed;
 
 pub use access::{Access, AccessKind, PathStep};

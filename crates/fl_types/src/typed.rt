@@ -2,7 +2,7 @@ ghost use Rattle.std.specs.Prelude.{◌≡◌, true};
 ghost use Rattle.fl_base.specs.Finds.{Finds};
 ghost use Rattle.fl_types.specs.declared.typed.TypeError.TheVariants.{Memory as memory};
 
-use crate::built::{is_built, is_ring_argument};
+use crate::supported::{is_ring_argument, is_supported};
 use fl_ast::{Name, Program};
 use std::alloc::Global;
 use std::marker::Model;
@@ -31,19 +31,19 @@ impl Model for Typed {
 
     ghost coded = { Prim.hlevel (codes, stmt.the_row.coded) };
 
-    ghost use Rattle.fl_types.specs.Built.{is_built};
+    ghost use Rattle.fl_types.specs.Supported.{is_supported};
 
     ghost view = { λ t. t.program };
 
-    ghost invariant = { λ t. is_built t.program ≡ true };
+    ghost invariant = { λ t. is_supported t.program ≡ true };
 }
 
 impl Typed {
-    ghost use Rattle.fl_types.specs.Built.{is_built, is_ring_argument as is_ring_argument_lem};
+    ghost use Rattle.fl_types.specs.Supported.{is_supported, is_ring_argument as is_ring_argument_lem};
 
     pub fn program(&self) -> &Program
         ensures program { result.now ≡ self.now }
-        ensures built { is_built self.now ≡ true }
+        ensures built { is_supported self.now ≡ true }
     {
         &self.program
     }
@@ -63,7 +63,7 @@ ghost use Rattle.fl_types.specs.Checked.{checked};
 pub fn check(_alloc: Global, program: Program) -> Result<Typed, TypeError>
     ensures { Finds (λ t. t) memory (checked program) result }
 {
-    if is_built(&program) {
+    if is_supported(&program) {
         Ok(Typed { program })
     } else {
         Err(TypeError::NotBuilt)

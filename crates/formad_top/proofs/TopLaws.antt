@@ -3,7 +3,7 @@ use Rattle.std.proofs.Common.{◌≡◌, ◌≢◌, ℕ, ◌⊎◌, inl, inr, Li
 use Rattle.std.specs.Prelude.{◌++◌}
 use Rattle.ending.specs.declared.status.Status.{Status}
 use Rattle.ending.specs.declared.status.Status.TheVariants.{Done, BadWords, NoFile, Refused, BadData, OverLimit, ReadFault, WriteFault, NoMemory}
-use Rattle.ending.specs.Plan.{Files, Plan, Says, Answers, Comes, said, untold, line}
+use Rattle.ending.specs.Plan.{Files, Plan, Says, Answers, LeadsTo, said, untold, line}
 use Rattle.ending.specs.Ends.{IsDue, comes, wanting, Ends, whole, cut, IsAnswer, Lacks}
 use Rattle.formad_words.specs.declared.words.Words.{Words}
 use Rattle.formad_words.specs.declared.words.Words.TheVariants.{Run}
@@ -12,8 +12,8 @@ use Rattle.commands.specs.Plans.{run_plan}
 use Rattle.commands.proofs.RunPast.{run_past}
 use Rattle.formad_top.specs.Top.{command_plan, planned, plan_of, HasBadWords, IsFileWord, IsMissing}
 
-pub bad_words : (words : List (List ℕ)) (files : Files) → words_in words ≡ None → Comes files (plan_of words) BadWords (codes "bad words\n")
-bad_words words files e = let P : Option Words → Type 0 = λ o. Comes files (planned o) BadWords (codes "bad words\n") in subst P (sym e) said
+pub bad_words : (words : List (List ℕ)) (files : Files) → words_in words ≡ None → LeadsTo files (plan_of words) BadWords (codes "bad words\n")
+bad_words words files e = let P : Option Words → Type 0 = λ o. LeadsTo files (planned o) BadWords (codes "bad words\n") in subst P (sym e) said
 
 -- the words of a command are its plan
 pub read : {contents : Option Files} {f f' : ℕ} {before after : Option (List ℕ)} {o o' : ℕ} {status : Status} (words : List (List ℕ)) (command : Words) →
@@ -25,7 +25,7 @@ read {contents = contents} {f = f} {f' = f'} {before = before} {after = after} {
 -- a command never says bad words
 due_bad : {files : Files} (command : Words) {status : Status} {text : List ℕ} → IsDue files (command_plan command) status text → status ≡ BadWords → ⊥
 due_bad {files = files} (Run file values seed of wrt) {text = text} (comes c) e =
-    let P : Status → Type 0 = λ s. Comes files (run_plan file values seed of wrt) s text in
+    let P : Status → Type 0 = λ s. LeadsTo files (run_plan file values seed of wrt) s text in
     elim (run_past file values seed of wrt (subst P e c) (λ h. cc) (λ h. cc) (λ h. cc) (λ h. cc) (λ h. cc) (λ h. cc)) [
       | inl lacks ↦ let no : BadWords ≡ NoFile = lacks.status_is in cc
       | inr other ↦ elim other [
@@ -48,7 +48,7 @@ has_bad_words (Some command) (cut status text count due put) = λ e. cc
 due_missing : {files : Files} (command : Words) {status : Status} {text : List ℕ} → IsDue files (command_plan command) status text → status ≡ NoFile →
     (name : List ℕ) × IsFileWord command name × (files name ≡ None) × (text ≡ line (codes "no file ") name)
 due_missing {files = files} (Run file values seed of wrt) {text = text} (comes c) e =
-    let P : Status → Type 0 = λ s. Comes files (run_plan file values seed of wrt) s text in
+    let P : Status → Type 0 = λ s. LeadsTo files (run_plan file values seed of wrt) s text in
     elim (run_past file values seed of wrt (subst P e c) (λ h. cc) (λ h. cc) (λ h. cc) (λ h. cc) (λ h. cc) (λ h. cc)) [
       | inl lacks ↦ (file, inl refl, lacks.absent, lacks.text_is)
       | inr other ↦ elim other [

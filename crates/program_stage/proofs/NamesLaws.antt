@@ -6,10 +6,10 @@ use Rattle.ending.specs.declared.early.Early.{Early}
 use Rattle.ending.specs.declared.early.Early.TheVariants.{Said, Memory}
 use Rattle.ending.specs.declared.status.Status.{Status}
 use Rattle.ending.specs.declared.status.Status.TheVariants.{Refused, ReadFault}
-use Rattle.ending.specs.Plan.{Files, Plan, Says, Comes, said, line}
+use Rattle.ending.specs.Plan.{Files, Plan, Says, LeadsTo, said, line}
 use Rattle.ending.specs.Stage.{IsPart, IsSaid}
 use Rattle.fl_ast.specs.declared.stmt.Program.{Program}
-use Rattle.fl_types.specs.Built.{is_ring_argument}
+use Rattle.fl_types.specs.Supported.{is_ring_argument}
 use Rattle.program_stage.specs.Names.{names_stage}
 
 opened : (program : Program) (names : List (List ℕ)) (i : ℕ) (name : List ℕ) (rest : Unit {0} → Plan) → i < length names → name ≡ get_or names i name →
@@ -47,5 +47,5 @@ names_pass program names i h e =
     record {
       clear = λ h. h;
       told = λ files rest status text comes.
-          let P : Plan → Type 0 = λ p. Comes files p status text in subst P (ap (λ ns. names_stage program ns rest) (sym none) ∙ e rest) comes;
+          let P : Plan → Type 0 = λ p. LeadsTo files p status text in subst P (ap (λ ns. names_stage program ns rest) (sym none) ∙ e rest) comes;
     }

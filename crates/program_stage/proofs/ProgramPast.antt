@@ -2,7 +2,7 @@
 use Rattle.std.proofs.Common.{◌≡◌, ℕ, ◌⊎◌, inl, inr, Bool, true, false, if◌then◌else◌, List, [], ◌∷◌, codes, refl, sym, ◌∙◌}
 use Rattle.ending.specs.declared.status.Status.{Status}
 use Rattle.ending.specs.declared.status.Status.TheVariants.{Refused, OverLimit, ReadFault, NoMemory}
-use Rattle.ending.specs.Plan.{Files, Plan, Says, Comes, line}
+use Rattle.ending.specs.Plan.{Files, Plan, Says, LeadsTo, line}
 use Rattle.ending.specs.Ends.{Lacks}
 use Rattle.ending.proofs.Past.{past_file, past_part, past_saying}
 use Rattle.fl_ast.specs.declared.stmt.Program.{Program}
@@ -14,7 +14,7 @@ use Rattle.fl_parser.specs.declared.error.ParseError.TheVariants as parsing
 use Rattle.fl_parser.specs.Parsed.{parsed}
 use Rattle.fl_types.specs.declared.typed.TypeError.{TypeError}
 use Rattle.fl_types.specs.declared.typed.TypeError.TheVariants as typing
-use Rattle.fl_types.specs.Built.{is_ring_argument}
+use Rattle.fl_types.specs.Supported.{is_ring_argument}
 use Rattle.fl_types.specs.Checked.{checked}
 use Rattle.program_stage.specs.Lexing.{say_lex, lexed_stage}
 use Rattle.program_stage.specs.Parsing.{say_parse, parsed_stage}
@@ -40,9 +40,9 @@ never_type : (status : Status) → (Refused ≡ status → ⊥) → (NoMemory �
 never_type status r m typing.NotBuilt h = r h
 never_type status r m typing.Memory h = m h
 
-pub program_past : {files : Files} (file : List ℕ) (rest : Program → Plan) {status : Status} {text : List ℕ} → Comes files (program_stage file rest) status text →
+pub program_past : {files : Files} (file : List ℕ) (rest : Program → Plan) {status : Status} {text : List ℕ} → LeadsTo files (program_stage file rest) status text →
     (Refused ≡ status → ⊥) → (NoMemory ≡ status → ⊥) → (OverLimit ≡ status → ⊥) → (ReadFault ≡ status → ⊥) →
-    Lacks files file status text ⊎ ((program : Program) × Comes files (rest program) status text)
+    Lacks files file status text ⊎ ((program : Program) × LeadsTo files (rest program) status text)
 unfolding program_stage source_stage lexed_stage parsed_stage typed_stage
 program_past file rest {status = status} c r m o f =
     elim (past_file c f o) [
@@ -55,13 +55,13 @@ program_past file rest {status = status} c r m o f =
     ]
 
 past_name : {files : Files} (program : Program) (name : List ℕ) (names : List (List ℕ)) (rest : Unit {0} → Plan) (b : Bool) {status : Status} {text : List ℕ} →
-    Comes files (if b then names_stage program names rest else Says Refused (line (codes "refused name ") name)) status text → (Refused ≡ status → ⊥) →
-    Comes files (names_stage program names rest) status text
+    LeadsTo files (if b then names_stage program names rest else Says Refused (line (codes "refused name ") name)) status text → (Refused ≡ status → ⊥) →
+    LeadsTo files (names_stage program names rest) status text
 past_name program name names rest true c r = c
 past_name program name names rest false c r = absurd (r (past_saying c))
 
 pub names_past : {files : Files} (program : Program) (names : List (List ℕ)) (rest : Unit {0} → Plan) {status : Status} {text : List ℕ} →
-    Comes files (names_stage program names rest) status text → (Refused ≡ status → ⊥) → Comes files (rest tt) status text
+    LeadsTo files (names_stage program names rest) status text → (Refused ≡ status → ⊥) → LeadsTo files (rest tt) status text
 unfolding names_stage
 names_past program [] rest c r = c
 names_past program (name ∷ names) rest c r = names_past program names rest (past_name program name names rest (is_ring_argument program name) c r) r

@@ -1,6 +1,6 @@
 use Rattle.std.proofs.Common.{◌≡◌, ◌+◌, take, drop, map}
 use Rattle.serde_json.specs.View.{view}
-use Rattle.data_io.specs.Rule.{element_faults, word_of}
+use Rattle.data_io.specs.DataFaults.{element_faults, word_of}
 use Rattle.data_io.proofs.number.words.Given as goal
 
 -- the faults are those of the elements from i on

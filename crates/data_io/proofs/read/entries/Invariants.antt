@@ -1,6 +1,6 @@
 use Rattle.std.proofs.Common.{◌≡◌, take, drop, flat_map}
 use Rattle.serde_json.specs.View.{view}
-use Rattle.data_io.specs.Rule.{name_faults, name_entries}
+use Rattle.data_io.specs.DataFaults.{name_faults, name_entries}
 use Rattle.data_io.proofs.read.entries.Given as goal
 
 abbrev pub invariant-loop-name : goal.invariant-loop-name

@@ -1,6 +1,6 @@
 use Rattle.std.proofs.Common.{◌≡◌, sym, ap, ◌∙◌, false, true, string_bytes, slice_get}
 use Rattle.serde_json.proofs.Views.{Entry}
-use Rattle.data_io.specs.Rule.{is_asked}
+use Rattle.data_io.specs.DataFaults.{is_asked}
 use Rattle.data_io.proofs.Extras.{extra_here, extra_later, sorted_rest}
 use Rattle.data_io.proofs.read.no_extra.Goals as goal
 

@@ -2,7 +2,7 @@ use Rattle.std.proofs.Common.{◌≡◌, string_cmp}
 use Rattle.std.specs.List.Sorted.{IsStrictlySortedBy}
 use Rattle.std.specs.Map.{keys_of}
 use Rattle.serde_json.specs.View.{members_view}
-use Rattle.data_io.specs.Rule.{extra_faults}
+use Rattle.data_io.specs.DataFaults.{extra_faults}
 use Rattle.data_io.proofs.read.no_extra.Given as goal
 
 -- the fault is that of the members that are left

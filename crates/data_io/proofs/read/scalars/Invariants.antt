@@ -1,6 +1,6 @@
 use Rattle.std.proofs.Common.{◌≡◌, take, drop, flat_map}
 use Rattle.serde_json.specs.View.{view}
-use Rattle.data_io.specs.Rule.{scalar_faults, scalars_named}
+use Rattle.data_io.specs.DataFaults.{scalar_faults, scalars_named}
 use Rattle.data_io.proofs.read.scalars.Given as goal
 
 abbrev pub invariant-loop-name : goal.invariant-loop-name

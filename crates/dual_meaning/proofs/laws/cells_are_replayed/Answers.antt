@@ -1,5 +1,0 @@
-use Rattle.dual_meaning.proofs.Replays.{cells_replayed}
-use Rattle.dual_meaning.proofs.laws.cells_are_replayed.Goals as goal
-
-pub returns : goal.returns
-returns c = cells_replayed

@@ -1,5 +1,0 @@
-use Rattle.dual_meaning.proofs.Everywhere.{runs_everywhere}
-use Rattle.dual_meaning.proofs.laws.runs_go_by_keys.Goals as goal
-
-pub returns : goal.returns
-returns c = runs_everywhere

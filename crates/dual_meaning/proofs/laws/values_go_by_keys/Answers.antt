@@ -1,5 +1,0 @@
-use Rattle.dual_meaning.proofs.ByKeys.{by_keys}
-use Rattle.dual_meaning.proofs.laws.values_go_by_keys.Goals as goal
-
-pub returns : goal.returns
-returns c = by_keys

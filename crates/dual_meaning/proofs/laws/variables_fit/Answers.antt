@@ -1,5 +1,0 @@
-use Rattle.dual_meaning.proofs.Variables.{variables_fit}
-use Rattle.dual_meaning.proofs.laws.variables_fit.Goals as goal
-
-pub returns : goal.returns
-returns c = variables_fit

@@ -1,5 +1,0 @@
-use Rattle.dual_meaning.proofs.Reducing.{widths_respected}
-use Rattle.dual_meaning.proofs.laws.widths_are_respected.Goals as goal
-
-pub returns : goal.returns
-returns c = widths_respected

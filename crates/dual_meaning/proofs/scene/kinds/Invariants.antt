@@ -1,6 +1,0 @@
-use Rattle.std.proofs.Common.{◌≡◌, ◌++◌, drop}
-use Rattle.dual_meaning.specs.Scenes.{kinds_of}
-use Rattle.dual_meaning.proofs.scene.kinds.Given as goal
-
-abbrev pub invariant-loop-shape : goal.invariant-loop-shape
-invariant-loop-shape l = kinds_of l.decls l.shapes ≡ l.kinds.items ++ kinds_of l.decls (drop l.shape-index l.shapes)

@@ -1,0 +1,24 @@
+pub mod Small
+pub mod Trios
+pub mod RunTrios
+pub mod LawProofs
+pub mod Reported
+pub mod Powers
+pub mod RunsByKeys
+pub mod Variables
+pub mod ByKeys
+mod Accessed
+mod Lines
+mod Loops
+mod Sums
+mod Mixed
+mod Outer
+pub mod Replays
+mod Stores
+mod Collapsed
+pub mod Reducing
+mod Bytes
+pub mod Widely
+pub mod TrapProofs
+pub mod Everywhere
+pub mod Once

@@ -1,0 +1,12 @@
+pub mod Values
+pub mod Logs
+pub mod Sites
+pub mod Expressions
+pub mod Statements
+pub mod Conflicts
+pub mod Stops
+pub mod Adjoints
+pub mod Programs
+pub mod Laws
+pub mod Sequential
+pub mod Widths

@@ -1,0 +1,83 @@
+-- What is left of a word at a width.
+use Rattle.std.specs.Prelude.{◌≡◌, ℕ, ◌%◌, [], ◌∷◌, Option, Some, None, Result, Ok, Err}
+use Rattle.ring_core.specs.declared.ring.Width.{Width}
+use Rattle.ring_core.specs.declared.ring.Width.TheVariants.{W8, W16, W64}
+use Rattle.fl_ast.specs.declared.kind.BinOp.{BinOp}
+use Rattle.fl_ast.specs.declared.kind.RelOp.{RelOp}
+use Rattle.meaning.specs.declared.value.Dual.{Dual}
+use Rattle.meaning.specs.declared.value.Value.{Value}
+use Rattle.meaning.specs.declared.value.Value.TheVariants.{Index, Ring}
+use Rattle.meaning.specs.declared.value.TrapAt.{TrapAt}
+use Rattle.fl_ast.specs.Tree.{Statements}
+use Rattle.meaning.specs.Logs.{Event, begins, touches, pushes, ends, traps, Log, silence, single, touched, sets, both, within}
+use Rattle.meaning.specs.Sites.{Cells, Site}
+use Rattle.meaning.specs.Statements.{run_all}
+use Rattle.meaning.specs.Values.{Found, binary_result, negated, power_result, larger, smaller, absolute, relates}
+
+abbrev pub modulus : Width → ℕ
+modulus W8 = 256
+modulus W16 = 65536
+modulus W64 = 18446744073709551616
+
+abbrev pub reduced_dual : Width → Dual → Dual
+reduced_dual w d = record { value = d.value % modulus w; tangent = d.tangent % modulus w }
+
+abbrev pub reduced : Width → Value → Value
+reduced w (Index z) = Index z
+reduced w (Ring d) = Ring (reduced_dual w d)
+
+abbrev pub reduced_found : Width → Found → Found
+reduced_found w (Ok v) = Ok (reduced w v)
+reduced_found w (Err c) = Err c
+
+abbrev pub reduced_cell : Width → Option Value → Option Value
+reduced_cell w None = None
+reduced_cell w (Some v) = Some (reduced w v)
+
+abbrev pub reduced_cells : Width → Cells → Cells
+reduced_cells w [] = []
+reduced_cells w (c ∷ cs) = reduced_cell w c ∷ reduced_cells w cs
+
+abbrev pub reduced_out : Width → Result Cells TrapAt → Result Cells TrapAt
+reduced_out w (Ok cells) = Ok (reduced_cells w cells)
+reduced_out w (Err t) = Err t
+
+-- what an operation on data at a width gives depends on what is left of its operands alone
+pub record OperationsRespect (w : Width) : Type 0 where
+  pub binary : (op : BinOp) (a b c d : Value) → reduced w a ≡ reduced w b → reduced w c ≡ reduced w d → reduced_found w (binary_result op a c) ≡ reduced_found w (binary_result op b d)
+  pub negation : (a b : Value) → reduced w a ≡ reduced w b → reduced_found w (negated a) ≡ reduced_found w (negated b)
+  pub power : (a b : Value) (n : ℕ) → reduced w a ≡ reduced w b → reduced_found w (power_result a n) ≡ reduced_found w (power_result b n)
+  pub relation : (op : RelOp) (a b c d : Value) → reduced w a ≡ reduced w b → reduced w c ≡ reduced w d → relates w op a c ≡ relates w op b d
+  pub larger_value : (a b c d : Value) → reduced w a ≡ reduced w b → reduced w c ≡ reduced w d → reduced_found w (larger w a c) ≡ reduced_found w (larger w b d)
+  pub smaller_value : (a b c d : Value) → reduced w a ≡ reduced w b → reduced w c ≡ reduced w d → reduced_found w (smaller w a c) ≡ reduced_found w (smaller w b d)
+  pub absolute_value : (a b : Value) → reduced w a ≡ reduced w b → reduced_found w (absolute w a) ≡ reduced_found w (absolute w b)
+
+-- at widths below that of a word; at 64 bits nothing is lost
+abbrev pub WidthsAreRespected : Type 0
+WidthsAreRespected = OperationsRespect W8 × OperationsRespect W16
+
+-- ---- whole runs
+
+abbrev pub reduced_event : Width → Event → Event
+reduced_event w begins = begins
+reduced_event w (touches t) = touches t
+reduced_event w (pushes n) = pushes (n % modulus w)
+reduced_event w (ends line) = ends line
+reduced_event w (traps t) = traps t
+
+abbrev pub reduced_log : Width → Log → Log
+reduced_log w silence = silence
+reduced_log w (single e) = single (reduced_event w e)
+reduced_log w (touched p kind) = touched p kind
+reduced_log w (sets p v) = sets p (reduced_cell w v)
+reduced_log w (both a b) = both (reduced_log w a) (reduced_log w b)
+reduced_log w (within p a) = within p (reduced_log w a)
+
+-- from cells that are equal modulo the width, runs have logs that are, and end with cells that are or with the same trap
+abbrev pub RunsRespect : Width → Type 0
+RunsRespect w =
+    (body : Statements) (site : Site) → site.width ≡ w → (c d : Cells) → reduced_cells w c ≡ reduced_cells w d →
+    (reduced_log w (run_all body site c).log ≡ reduced_log w (run_all body site d).log) × (reduced_out w (run_all body site c).out ≡ reduced_out w (run_all body site d).out)
+
+abbrev pub RunsRespectWidths : Type 0
+RunsRespectWidths = RunsRespect W8 × RunsRespect W16

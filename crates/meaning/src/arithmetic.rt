@@ -1,0 +1,297 @@
+ghost use Rattle.std.specs.Prelude.{◌≡◌, [], ◌∷◌};
+ghost use Rattle.meaning.specs.Values.{dual_add, dual_sub, dual_neg, dual_mul, dual_pow, cause_of, as_dual, converted, rank, whole, literal_value, index_result, ring_result, binary_result, negated, power_result, larger, smaller, absolute, remainder, call_result, compares, ranks as ranks_lem, relates};
+ghost use Rattle.ring_core.specs.declared.ring.Width.TheVariants.{W64};
+ghost use Rattle.meaning.specs.declared.value.Value.{Value};
+
+use crate::value::{Cause, Dual, Value};
+use fl_ast::{BinOp, Fun, Kind, RelOp};
+use ring_core::{Index, IndexTrap, Ring};
+
+impl From<IndexTrap> for Cause {
+    ghost from_gives = { λ t c. c ≡ cause_of t };
+
+    fn from(trap: IndexTrap) -> Cause {
+        match trap {
+            IndexTrap::Range => Cause::Range,
+            IndexTrap::ZeroDivisor => Cause::ZeroDivisor,
+        }
+    }
+}
+
+impl Dual {
+    /// A value that no direction moves.
+    pub fn constant(value: Ring) -> Dual
+        ensures { result ≡ record { value = value; tangent = 0 } }
+    {
+        Dual {
+            value,
+            tangent: Ring::of_word(0),
+        }
+    }
+
+    pub fn add(self, other: Dual) -> Dual
+        ensures { result ≡ dual_add self other }
+    {
+        Dual {
+            value: self.value.add(other.value),
+            tangent: self.tangent.add(other.tangent),
+        }
+    }
+
+    pub fn sub(self, other: Dual) -> Dual
+        ensures { result ≡ dual_sub self other }
+    {
+        Dual {
+            value: self.value.sub(other.value),
+            tangent: self.tangent.sub(other.tangent),
+        }
+    }
+
+    pub fn neg(self) -> Dual
+        ensures { result ≡ dual_neg self }
+    {
+        Dual {
+            value: self.value.neg(),
+            tangent: self.tangent.neg(),
+        }
+    }
+
+    pub fn mul(self, other: Dual) -> Dual
+        ensures { result ≡ dual_mul self other }
+    {
+        let left = self.value.mul(other.tangent);
+        let right = self.tangent.mul(other.value);
+        Dual {
+            value: self.value.mul(other.value),
+            tangent: left.add(right),
+        }
+    }
+
+    /// The product of so many factors, by one power of the value.
+    #[tactic(auto, using(crate::proofs::Powers::powers))]
+    pub fn pow(self, exponent: u32) -> Dual
+        ensures { result ≡ dual_pow self exponent }
+    {
+        if exponent == 0 {
+            return Dual::constant(Ring::of_word(1));
+        }
+        let less = self.value.pow(exponent - 1);
+        Dual {
+            value: self.value.pow(exponent),
+            tangent: Ring::of_word(u64::from(exponent))
+                .mul(less)
+                .mul(self.tangent),
+        }
+    }
+}
+
+impl Value {
+    /// The value as one of the ring kind; an index value has tangent 0.
+    pub fn as_dual(self) -> Dual
+        ensures { result ≡ as_dual self }
+    {
+        match self {
+            Value::Index(index) => Dual::constant(Ring::from_signed(i64::from(index.value()))),
+            Value::Ring(dual) => dual,
+        }
+    }
+
+    /// What a name of a kind holds when it is set to this value.
+    pub fn converted(self, kind: Kind) -> Value
+        ensures { result ≡ converted kind self }
+    {
+        match kind {
+            Kind::Ring => Value::Ring(self.as_dual()),
+            Kind::Index => self,
+        }
+    }
+
+    /// The number by which values are compared.
+    pub fn rank(&self) -> i64
+        ensures { result ≡ rank W64 self.now }
+    {
+        match self {
+            Value::Index(index) => i64::from(index.value()),
+            Value::Ring(dual) => dual.value.signed(),
+        }
+    }
+
+    /// The number of an index value, 0 of a ring value.
+    pub fn whole(&self) -> i32
+        ensures { result ≡ whole self.now }
+    {
+        match self {
+            Value::Index(index) => index.value(),
+            Value::Ring(_) => 0,
+        }
+    }
+
+    pub fn neg(self) -> Result<Value, Cause>
+        ensures { result ≡ negated self }
+    {
+        match self {
+            Value::Index(index) => Ok(Value::Index(index.neg()?)),
+            Value::Ring(dual) => Ok(Value::Ring(dual.neg())),
+        }
+    }
+
+    pub fn pow(self, exponent: u32) -> Result<Value, Cause>
+        ensures { result ≡ power_result self exponent }
+    {
+        match self {
+            Value::Index(index) => Ok(Value::Index(index.pow(exponent)?)),
+            Value::Ring(dual) => Ok(Value::Ring(dual.pow(exponent))),
+        }
+    }
+
+    pub fn max(self, other: Value) -> Result<Value, Cause>
+        ensures { result ≡ larger W64 self other }
+    {
+        if self.rank() >= other.rank() {
+            Ok(self)
+        } else {
+            Ok(other)
+        }
+    }
+
+    pub fn min(self, other: Value) -> Result<Value, Cause>
+        ensures { result ≡ smaller W64 self other }
+    {
+        if self.rank() <= other.rank() {
+            Ok(self)
+        } else {
+            Ok(other)
+        }
+    }
+
+    pub fn abs(self) -> Result<Value, Cause>
+        ensures { result ≡ absolute W64 self }
+    {
+        if self.rank() < 0 {
+            self.neg()
+        } else {
+            Ok(self)
+        }
+    }
+
+    pub fn rem(self, other: Value) -> Result<Value, Cause>
+        ensures { result ≡ remainder self other }
+    {
+        match self {
+            Value::Index(left) => match other {
+                Value::Index(right) => Ok(Value::Index(left.rem(right)?)),
+                Value::Ring(_) => Err(Cause::Range),
+            },
+            Value::Ring(_) => Err(Cause::Range),
+        }
+    }
+}
+
+/// A literal's value.
+#[tactic(auto, using(ring_core::proofs::Fits::fits))]
+pub fn literal(word: u64, kind: Kind) -> Result<Value, Cause>
+    ensures { result ≡ literal_value word kind }
+{
+    match kind {
+        Kind::Index => match i32::try_from(word) {
+            Ok(value) => Ok(Value::Index(Index::of(value))),
+            Err(_) => Err(Cause::Range),
+        },
+        Kind::Ring => Ok(Value::Ring(Dual::constant(Ring::of_word(word)))),
+    }
+}
+
+fn on_index(op: BinOp, left: Index, right: Index) -> Result<Value, Cause>
+    ensures { result ≡ index_result op left right }
+{
+    let found = match op {
+        BinOp::Add => left.add(right),
+        BinOp::Sub => left.sub(right),
+        BinOp::Mul => left.mul(right),
+        BinOp::Div => left.div(right),
+    };
+    Ok(Value::Index(found?))
+}
+
+fn on_ring(op: BinOp, left: Dual, right: Dual) -> Result<Value, Cause>
+    ensures { result ≡ ring_result op left right }
+{
+    match op {
+        BinOp::Add => Ok(Value::Ring(left.add(right))),
+        BinOp::Sub => Ok(Value::Ring(left.sub(right))),
+        BinOp::Mul => Ok(Value::Ring(left.mul(right))),
+        BinOp::Div => Err(Cause::Range),
+    }
+}
+
+/// The sum, difference, product or quotient; of two kinds the index operand is converted to the ring kind.
+pub fn binary(op: BinOp, left: Value, right: Value) -> Result<Value, Cause>
+    ensures { result ≡ binary_result op left right }
+{
+    match left {
+        Value::Index(index) => match right {
+            Value::Index(other) => on_index(op, index, other),
+            Value::Ring(dual) => on_ring(op, left.as_dual(), dual),
+        },
+        Value::Ring(dual) => on_ring(op, dual, right.as_dual()),
+    }
+}
+
+fn on_two(fun: Fun, left: Value, right: Value) -> Result<Value, Cause>
+    ensures { result ≡ call_result W64 fun (left ∷ right ∷ []) }
+{
+    match fun {
+        Fun::Max => left.max(right),
+        Fun::Min => left.min(right),
+        Fun::Mod => left.rem(right),
+        Fun::Abs => Err(Cause::Range),
+    }
+}
+
+/// The intrinsic's value at its arguments.
+pub fn called(fun: Fun, args: &[Value]) -> Result<Value, Cause>
+    ensures { result ≡ call_result W64 fun args.now }
+{
+    match args {
+        [value] => match fun {
+            Fun::Abs => value.abs(),
+            _ => Err(Cause::Range),
+        },
+        [left, right] => on_two(fun, *left, *right),
+        _ => Err(Cause::Range),
+    }
+}
+
+/// The numbers by which two values are compared; of two kinds the index value is converted to the ring kind.
+fn ranks(left: Value, right: Value) -> (i64, i64)
+    ensures { result ≡ ranks_lem W64 left right }
+{
+    match left {
+        Value::Index(index) => match right {
+            Value::Index(other) => (i64::from(index.value()), i64::from(other.value())),
+            Value::Ring(dual) => (left.as_dual().value.signed(), dual.value.signed()),
+        },
+        Value::Ring(dual) => (dual.value.signed(), right.as_dual().value.signed()),
+    }
+}
+
+fn compares_by(op: RelOp, left: i64, right: i64) -> bool
+    ensures { result ≡ compares op left right }
+{
+    match op {
+        RelOp::Eq => left == right,
+        RelOp::Ne => left != right,
+        RelOp::Lt => left < right,
+        RelOp::Le => left <= right,
+        RelOp::Gt => left > right,
+        RelOp::Ge => left >= right,
+    }
+}
+
+/// Whether a relation holds. Ring values are compared by their representatives in -2^63 .. 2^63-1.
+pub fn related(op: RelOp, left: Value, right: Value) -> bool
+    ensures { result ≡ relates W64 op left right }
+{
+    let (left, right) = ranks(left, right);
+    compares_by(op, left, right)
+}

@@ -1,0 +1,62 @@
+ghost use Rattle.meaning.specs.Laws.{TangentsAreUnseen, TangentsAreLinear, ConflictIsReported, ValuesGoByKeys, VariablesFit, SequentialRunsGoByKeys, CellsAreReplayed, TrapsAreTold, RunsGoByKeys, ReportsAreOne};
+ghost use Rattle.meaning.specs.Widths.{WidthsAreRespected, RunsRespectWidths};
+
+/// Values, events, conflicts and traps of a program don't depend on the tangents that it begins with.
+pub fn tangents_are_unseen()
+    ensures { TangentsAreUnseen }
+{}
+
+/// The tangents at the end are linear in those at the beginning.
+pub fn tangents_are_linear()
+    ensures { TangentsAreLinear }
+{}
+
+/// A conflict is reported of a parallel loop's touches exactly where two of them clash, and it is the least.
+pub fn conflict_is_reported()
+    ensures { ConflictIsReported }
+{}
+
+/// What an expression or a condition is worth doesn't depend on the loops around it.
+pub fn values_go_by_keys()
+    ensures { ValuesGoByKeys }
+{}
+
+/// The variable of a loop never leaves the range of the index kind.
+pub fn variables_fit()
+    ensures { VariablesFit }
+{}
+
+/// Without parallel loops, what a run does depends neither on the loops around it nor on what it pushes.
+pub fn sequential_runs_go_by_keys()
+    ensures { SequentialRunsGoByKeys }
+{}
+
+/// What a run's log tells of stores, replayed, makes the cells that it ends with.
+pub fn cells_are_replayed()
+    ensures { CellsAreReplayed }
+{}
+
+/// On data of one or two bytes, what an operation gives depends on what is left of its operands modulo 2^8 or 2^16 alone.
+pub fn widths_are_respected()
+    ensures { WidthsAreRespected }
+{}
+
+/// Runs on data of one or two bytes from cells that are equal modulo 2^8 or 2^16 stay so, with their logs and stops.
+pub fn runs_respect_widths()
+    ensures { RunsRespectWidths }
+{}
+
+/// A run traps exactly where its log tells a trap, and it is that one.
+pub fn traps_are_told()
+    ensures { TrapsAreTold }
+{}
+
+/// What a run does depends neither on the loops around it nor on what it pushes or touches.
+pub fn runs_go_by_keys()
+    ensures { RunsGoByKeys }
+{}
+
+/// At most one thing is reported of a parallel loop's touches.
+pub fn reports_are_one()
+    ensures { ReportsAreOne }
+{}

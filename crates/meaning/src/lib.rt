@@ -1,0 +1,14 @@
+//! What a program means: its values, tangents and events, in order on one thread; arithmetic on values, and laws.
+#![tactic(auto)]
+
+mod arithmetic;
+mod laws;
+mod value;
+
+pub use arithmetic::{binary, called, literal, related};
+pub use laws::{
+    cells_are_replayed, conflict_is_reported, reports_are_one, runs_go_by_keys,
+    runs_respect_widths, sequential_runs_go_by_keys, tangents_are_linear, tangents_are_unseen,
+    traps_are_told, values_go_by_keys, variables_fit, widths_are_respected,
+};
+pub use value::{Cause, Dual, IterationCount, TrapAt, Value};

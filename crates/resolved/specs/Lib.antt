@@ -1,0 +1,4 @@
+pub mod Codes
+pub mod SlotTables
+pub mod Steps
+pub mod Resolves

@@ -1,0 +1,12 @@
+//! Trees whose names are slots of a layout, and the trees that they stand for.
+#![tactic(auto)]
+
+mod resolve;
+mod resolve_steps;
+mod resolved;
+mod slot_table;
+
+pub use resolve::{ResolveError, resolve_expression, resolve_place, resolve_test};
+pub use resolve_steps::{resolve_statement, resolve_statements};
+pub use resolved::{ResolvedArm, ResolvedCond, ResolvedExpr, ResolvedPlace, ResolvedStmt};
+pub use slot_table::SlotTable;

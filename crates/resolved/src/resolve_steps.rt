@@ -1,0 +1,203 @@
+ghost use Rattle.std.specs.Prelude.{◌≡◌, ◌<◌, length, true, is_none};
+ghost use Rattle.fl_ast.specs.Tree.{assignment, expr_tree, place_tree, step_tree, stmt_tree, stmt_trees, arm_tree, arm_trees};
+ghost use Rattle.resolved.specs.Codes.{slot_name, code_back, is_within, is_placed};
+ghost use Rattle.meaning.specs.Sequential.{is_sequential, are_sequential, are_arms_sequential};
+ghost use Rattle.resolved.specs.Steps.{step_back, steps_back, arm_back, arms_back, option_back, form_in as form_in_lem, is_option_within, is_fit, are_fit, is_arm_fit, are_arms_fit, is_option_placed, is_statement_placed, are_statements_placed, is_arm_placed, are_arms_placed};
+ghost use Rattle.resolved.specs.Resolves.{Resolves, ResolvesStatements, ResolvesHead};
+
+use crate::resolve::{ResolveError, resolve_expression, resolve_place, resolve_test};
+use crate::resolved::{ResolvedArm, ResolvedExpr, ResolvedStmt};
+use crate::slot_table::SlotTable;
+use fl_ast::{Arm, Expr, Kind, Name, Place, Stmt};
+use fl_base::Items;
+use fl_types::{IncrementForm, increment_form};
+use std::alloc::Global;
+use store_core::Layout;
+
+/// The form of an increment, where the target is of the ring kind.
+fn form_in(table: &SlotTable, slot: usize, target: &Place, value: &Expr) -> Option<IncrementForm>
+    requires within { slot < length table.now.0 }
+    requires named { slot_name table.now.0 slot ≡ (place_tree target.now).name }
+    ensures { result ≡ form_in_lem table.now (place_tree target.now) (expr_tree value.now) }
+{
+    match table.kind(slot) {
+        Kind::Ring => increment_form(target, value),
+        Kind::Index => None,
+    }
+}
+
+fn resolve_assignment(
+    alloc: Global,
+    table: &SlotTable,
+    line: u32,
+    atomic: bool,
+    target: &Place,
+    value: &Expr,
+) -> Result<ResolvedStmt, ResolveError>
+    ensures { ResolvesStatements (step_back table.now.0) (is_fit table.now) (assignment line atomic (place_tree target.now) (expr_tree value.now)) true
+        (is_statement_placed table.now.0 (assignment line atomic (place_tree target.now) (expr_tree value.now))) result }
+{
+    let code = resolve_expression(alloc, table.layout(), value)?;
+    let spot = resolve_place(alloc, table.layout(), target)?;
+    let form = form_in(table, spot.slot, target, value);
+    Ok(ResolvedStmt::Assign {
+        line,
+        atomic,
+        target: spot,
+        value: code,
+        form,
+    })
+}
+
+fn resolve_option(
+    alloc: Global,
+    layout: &Layout,
+    expr: &Option<Expr>,
+) -> Result<Option<ResolvedExpr>, ResolveError>
+    ensures { Resolves (option_back layout.now) (is_option_within (length layout.now)) (step_tree expr.now)
+        (is_option_placed layout.now (step_tree expr.now)) result }
+{
+    match expr {
+        None => Ok(None),
+        Some(expr) => Ok(Some(resolve_expression(alloc, layout, expr)?)),
+    }
+}
+
+/// A loop's variable and bounds.
+#[derive(Drop)]
+pub struct Head {
+    pub variable: usize,
+    pub first: ResolvedExpr,
+    pub last: ResolvedExpr,
+    pub step: Option<ResolvedExpr>,
+}
+
+fn resolve_head(
+    alloc: Global,
+    layout: &Layout,
+    var: &Name,
+    first: &Expr,
+    last: &Expr,
+    step: &Option<Expr>,
+) -> Result<Head, ResolveError>
+    ensures { ResolvesHead layout.now var.now (expr_tree first.now) (expr_tree last.now) (step_tree step.now) result }
+{
+    let variable = match layout.slot(var) {
+        None => return Err(ResolveError::Unplaced),
+        Some(slot) => slot,
+    };
+    let first = resolve_expression(alloc, layout, first)?;
+    let last = resolve_expression(alloc, layout, last)?;
+    let step = resolve_option(alloc, layout, step)?;
+    Ok(Head {
+        variable,
+        first,
+        last,
+        step,
+    })
+}
+
+/// A statement with each name's slot.
+#[cycle(resolve_statements)]
+pub fn resolve_statement(
+    alloc: Global,
+    table: &SlotTable,
+    stmt: &Stmt,
+) -> Result<ResolvedStmt, ResolveError>
+    ensures { ResolvesStatements (step_back table.now.0) (is_fit table.now) (stmt_tree stmt.now)
+        (is_sequential (stmt_tree stmt.now)) (is_statement_placed table.now.0 (stmt_tree stmt.now)) result }
+{
+    match stmt {
+        Stmt::Assign {
+            line,
+            atomic,
+            target,
+            value,
+        } => resolve_assignment(alloc, table, *line, *atomic, target, value),
+        Stmt::If { line, arms, other } => {
+            let arms = resolve_arms(alloc, table, arms.as_slice())?;
+            let other = resolve_statements(alloc, table, other.as_slice())?;
+            Ok(ResolvedStmt::If {
+                line: *line,
+                arms,
+                other,
+            })
+        }
+        Stmt::Do {
+            line,
+            number,
+            directive,
+            var,
+            first,
+            last,
+            step,
+            body,
+        } => {
+            if directive.is_some() {
+                return Err(ResolveError::Parallel);
+            }
+            let head = resolve_head(alloc, table.layout(), var, first, last, step)?;
+            let body = resolve_statements(alloc, table, body.as_slice())?;
+            let Head {
+                variable,
+                first,
+                last,
+                step,
+            } = head;
+            Ok(ResolvedStmt::Do {
+                line: *line,
+                number: *number,
+                variable,
+                first,
+                last,
+                step,
+                body,
+            })
+        }
+    }
+}
+
+/// Statements with each name's slot, where none is a parallel loop.
+#[cycle(resolve_statements)]
+pub fn resolve_statements(
+    alloc: Global,
+    table: &SlotTable,
+    stmts: &[Stmt],
+) -> Result<Items<ResolvedStmt>, ResolveError>
+    ensures { ResolvesStatements (steps_back table.now.0) (are_fit table.now) (stmt_trees stmts.now)
+        (are_sequential (stmt_trees stmts.now)) (are_statements_placed table.now.0 (stmt_trees stmts.now)) result }
+{
+    let mut all = Items::new(alloc);
+    for stmt in stmts {
+        let step = resolve_statement(alloc, table, stmt)?;
+        all.push(step)?;
+    }
+    Ok(all)
+}
+
+#[cycle(resolve_statements)]
+fn resolve_arms(
+    alloc: Global,
+    table: &SlotTable,
+    arms: &[Arm],
+) -> Result<Items<ResolvedArm>, ResolveError>
+    ensures { ResolvesStatements (arms_back table.now.0) (are_arms_fit table.now) (arm_trees arms.now)
+        (are_arms_sequential (arm_trees arms.now)) (are_arms_placed table.now.0 (arm_trees arms.now)) result }
+{
+    let mut all = Items::new(alloc);
+    for arm in arms {
+        let resolved = resolve_arm(alloc, table, arm)?;
+        all.push(resolved)?;
+    }
+    Ok(all)
+}
+
+#[cycle(resolve_statements)]
+fn resolve_arm(alloc: Global, table: &SlotTable, arm: &Arm) -> Result<ResolvedArm, ResolveError>
+    ensures { ResolvesStatements (arm_back table.now.0) (is_arm_fit table.now) (arm_tree arm.now)
+        (are_sequential (arm_tree arm.now).1) (is_arm_placed table.now.0 (arm_tree arm.now)) result }
+{
+    let test = resolve_test(alloc, table.layout(), &arm.test)?;
+    let body = resolve_statements(alloc, table, arm.body.as_slice())?;
+    Ok(ResolvedArm { test, body })
+}
