@@ -15,15 +15,15 @@ use Rattle.meaning.specs.declared.value.Dual.{Dual}
 use Rattle.meaning.specs.declared.value.Value.{Value}
 use Rattle.meaning.specs.declared.value.Value.TheVariants.{Ring}
 use Rattle.meaning.specs.declared.value.Cause.{Cause}
-use Rattle.meaning.specs.Values.{dual_add, dual_sub, as_dual, wholes}
-use Rattle.meaning.specs.Logs.{Log, Traced, pure, joined, ◌>>=◌, inside, right_side}
+use Rattle.meaning.specs.Values.{dual_add, dual_sub, as_dual, whole_numbers}
+use Rattle.meaning.specs.Logs.{Log, Traced, pure, continuation, ◌>>=◌, inside, right_side}
 use Rattle.meaning.specs.Sites.{Cells, Site, place_of}
 use Rattle.meaning.specs.Expressions.{content, value_of, values_of}
-use Rattle.meaning.specs.Statements.{stored, plain, put, terms_of, grown, grow_cell, grow, increment, assigned}
+use Rattle.meaning.specs.Statements.{store_at, plain_assignment, put, terms_of, incremented_dual, increment_cell, increment_place, increment, assignment_by}
 use Rattle.resolved.specs.SlotTables.{Names, table_site, is_ring_in}
-use Rattle.resolved.specs.Steps.{form_in, same_form}
-use Rattle.dual_meaning.specs.Answers.{located}
-use Rattle.dual_meaning.specs.Running.{put_by, grow_cell_by, grow_at, grow_by, summed, no_sum, chain_sum, front, by_form}
+use Rattle.resolved.specs.ResolvedStmts.{form_in, same_form}
+use Rattle.dual_meaning.specs.Answers.{location_of}
+use Rattle.dual_meaning.specs.Running.{put_by, increment_cell_by, increment_at, increment_by, sum_with, no_sum, chain_sum, front, by_form}
 use Rattle.meaning.proofs.ByKeys.{touching_out}
 
 -- one result and then another
@@ -31,7 +31,7 @@ abbrev pub next : {X A B : Type 0} → Result A X → (A → Result B X) → Res
 next (Ok a) f = f a
 next (Err x) f = Err x
 
-out_joined : {X A B : Type 0} (l : Log) (r : Result A X) (f : A → Traced X B) → (joined l r f).out ≡ next r (λ a. (f a).out)
+out_joined : {X A B : Type 0} (l : Log) (r : Result A X) (f : A → Traced X B) → (continuation l r f).out ≡ next r (λ a. (f a).out)
 out_joined l (Ok a) f = refl
 out_joined l (Err x) f = refl
 
@@ -76,22 +76,22 @@ step_none : (s : Bool) (a b : Dual) → step s a b ≡ dual_add a (step s no_sum
 step_none true a b = from_none_sub a b
 step_none false a b = from_none a b
 
-grown_add : (ds : List (Bool × Dual)) (a b : Dual) → grown ds (dual_add a b) ≡ dual_add a (grown ds b)
+grown_add : (ds : List (Bool × Dual)) (a b : Dual) → incremented_dual ds (dual_add a b) ≡ dual_add a (incremented_dual ds b)
 grown_add [] a b = refl
-grown_add (d ∷ ds) a b = ap (grown ds) (step_assoc d.0 a b d.1) ∙ grown_add ds a (step d.0 b d.1)
+grown_add (d ∷ ds) a b = ap (incremented_dual ds) (step_assoc d.0 a b d.1) ∙ grown_add ds a (step d.0 b d.1)
 
 -- some terms are added by adding their sum
-grown_sum : (d : Bool × Dual) (ds : List (Bool × Dual)) (a : Dual) → grown (d ∷ ds) a ≡ dual_add a (grown (d ∷ ds) no_sum)
-grown_sum d ds a = ap (grown ds) (step_none d.0 a d.1) ∙ grown_add ds a (step d.0 no_sum d.1)
+grown_sum : (d : Bool × Dual) (ds : List (Bool × Dual)) (a : Dual) → incremented_dual (d ∷ ds) a ≡ dual_add a (incremented_dual (d ∷ ds) no_sum)
+grown_sum d ds a = ap (incremented_dual ds) (step_none d.0 a d.1) ∙ grown_add ds a (step d.0 no_sum d.1)
 
-grown_more : (ds : List (Bool × Dual)) (d : Bool × Dual) (a : Dual) → grown (ds ++ d ∷ []) a ≡ step d.0 (grown ds a) d.1
+grown_more : (ds : List (Bool × Dual)) (d : Bool × Dual) (a : Dual) → incremented_dual (ds ++ d ∷ []) a ≡ step d.0 (incremented_dual ds a) d.1
 grown_more [] d a = refl
 grown_more (e ∷ ds) d a = grown_more ds d (step e.0 a e.1)
 
 -- ---- the terms of a chain
 
 abbrev sums_of : Result (List (Bool × Dual)) Cause → Result Dual Cause
-sums_of (Ok ds) = Ok (grown ds no_sum)
+sums_of (Ok ds) = Ok (incremented_dual ds no_sum)
 sums_of (Err c) = Err c
 
 abbrev added_to : List (Bool × Dual) → Bool → Result Value Cause → Result (List (Bool × Dual)) Cause
@@ -104,7 +104,7 @@ ended (Ok ds) s r = added_to ds s r
 ended (Err c) s r = Err c
 
 terms_one : (site : Site) (cells : Cells) (r : Signed) (l : Log) (q : Result Value Cause)
-    → (joined {X = Cause} {A = Value} {B = List (Bool × Dual)} l q (λ v. pure [] >>= (λ ds. pure ((r.0, as_dual v) ∷ ds)))).out ≡ added_to [] r.0 q
+    → (continuation {X = Cause} {A = Value} {B = List (Bool × Dual)} l q (λ v. pure [] >>= (λ ds. pure ((r.0, as_dual v) ∷ ds)))).out ≡ added_to [] r.0 q
 terms_one site cells r l (Ok v) = refl
 terms_one site cells r l (Err c) = refl
 
@@ -196,8 +196,8 @@ sum_by site cells x ss a b s f h more false e rs g =
 -- a chain's sum is that of its terms
 sum_is : (site : Site) (cells : Cells) (x : List ℕ) (ss : Expressions) (e : Expression) (rs : List Signed) → chain (get x ss) e ≡ Some rs
     → (chain_sum e site cells).out ≡ sums_of (terms_of rs site cells).out
-sum_is site cells x ss (binary Add a b) rs h = sum_by site cells x ss a b false (summed Add) (λ d e. refl) (λ qs g. sum_is site cells x ss a qs g) (same_expression (get x ss) a) refl rs h
-sum_is site cells x ss (binary Sub a b) rs h = sum_by site cells x ss a b true (summed Sub) (λ d e. refl) (λ qs g. sum_is site cells x ss a qs g) (same_expression (get x ss) a) refl rs h
+sum_is site cells x ss (binary Add a b) rs h = sum_by site cells x ss a b false (sum_with Add) (λ d e. refl) (λ qs g. sum_is site cells x ss a qs g) (same_expression (get x ss) a) refl rs h
+sum_is site cells x ss (binary Sub a b) rs h = sum_by site cells x ss a b true (sum_with Sub) (λ d e. refl) (λ qs g. sum_is site cells x ss a qs g) (same_expression (get x ss) a) refl rs h
 sum_is site cells x ss (binary Mul a b) rs h = absurd (cc)
 sum_is site cells x ss (binary Div a b) rs h = absurd (cc)
 sum_is site cells x ss (literal n k) rs h = absurd (cc)
@@ -237,22 +237,22 @@ next_next (Ok a) g f = refl
 next_next (Err x) g f = refl
 
 located_then : {A : Type 0} (site : Site) (cells : Cells) (p : Designator) (f : Option ℕ → Traced Cause A)
-    → (located site cells p >>= f).out ≡ next (values_of p.subscripts site cells).out (λ vs. (f (place_of site p.name (wholes vs))).out)
+    → (location_of site cells p >>= f).out ≡ next (values_of p.subscripts site cells).out (λ vs. (f (place_of site p.name (whole_numbers vs))).out)
 located_then site cells p f =
-    out_then (located site cells p) f ∙ ap (λ o. next o (λ a. (f a).out)) (out_then (values_of p.subscripts site cells) _)
-    ∙ next_next (values_of p.subscripts site cells).out (λ vs. place_of site p.name (wholes vs)) (λ a. (f a).out)
+    out_then (location_of site cells p) f ∙ ap (λ o. next o (λ a. (f a).out)) (out_then (values_of p.subscripts site cells) _)
+    ∙ next_next (values_of p.subscripts site cells).out (λ vs. place_of site p.name (whole_numbers vs)) (λ a. (f a).out)
 
 abbrev IsSum : List (Bool × Dual) → Dual → Type 0
-IsSum ds d = (z : Dual) → grown ds z ≡ dual_add z d
+IsSum ds d = (z : Dual) → incremented_dual ds z ≡ dual_add z d
 
 grow_cell_is : (site : Site) (cells : Cells) (x : List ℕ) (kind : AccessKind) (ds : List (Bool × Dual)) (d : Dual) (p : ℕ) (o : Option Value) → IsSum ds d
-    → (grow_cell_by cells x d p o).out ≡ (grow_cell site cells x kind ds p o).out
+    → (increment_cell_by cells x d p o).out ≡ (increment_cell site cells x kind ds p o).out
 grow_cell_is site cells x kind ds d p None h = refl
 grow_cell_is site cells x kind ds d p (Some v) h =
-    sym (touching_out site x p kind (stored cells p (Ring (grown ds (as_dual v)))) ∙ ap (λ g. Ok (slice_set cells p (Some (Ring g)))) (h (as_dual v)))
+    sym (touching_out site x p kind (store_at cells p (Ring (incremented_dual ds (as_dual v)))) ∙ ap (λ g. Ok (slice_set cells p (Some (Ring g)))) (h (as_dual v)))
 
 grow_is : (site : Site) (cells : Cells) (x : List ℕ) (kind : AccessKind) (ds : List (Bool × Dual)) (d : Dual) (o : Option ℕ) → IsSum ds d
-    → (grow_at cells x d o).out ≡ (grow site cells x kind ds o).out
+    → (increment_at cells x d o).out ≡ (increment_place site cells x kind ds o).out
 grow_is site cells x kind ds d None h = refl
 grow_is site cells x kind ds d (Some p) h = grow_cell_is site cells x kind ds d p (content cells p) h
 
@@ -261,52 +261,52 @@ next_same (Ok a) f g h = h a
 next_same (Err x) f g h = refl
 
 grown_at : (site : Site) (cells : Cells) (p : Designator) (kind : AccessKind) (ds : List (Bool × Dual)) (d : Dual) → IsSum ds d
-    → (grow_by site cells p d).out ≡ (values_of p.subscripts site cells >>= (λ vs. grow site cells p.name kind ds (place_of site p.name (wholes vs)))).out
+    → (increment_by site cells p d).out ≡ (values_of p.subscripts site cells >>= (λ vs. increment_place site cells p.name kind ds (place_of site p.name (whole_numbers vs)))).out
 grown_at site cells p kind ds d h =
-    located_then site cells p (grow_at cells p.name d)
-    ∙ next_same (values_of p.subscripts site cells).out _ _ (λ vs. grow_is site cells p.name kind ds d (place_of site p.name (wholes vs)) h)
-    ∙ sym (out_then (values_of p.subscripts site cells) (λ vs. grow site cells p.name kind ds (place_of site p.name (wholes vs))))
+    located_then site cells p (increment_at cells p.name d)
+    ∙ next_same (values_of p.subscripts site cells).out _ _ (λ vs. grow_is site cells p.name kind ds d (place_of site p.name (whole_numbers vs)) h)
+    ∙ sym (out_then (values_of p.subscripts site cells) (λ vs. increment_place site cells p.name kind ds (place_of site p.name (whole_numbers vs))))
 
 -- ---- increments
 
 one_more : (r : Bool) (q : Result Value Cause) (o : Result (List (Bool × Dual)) Cause) (ds : List (Bool × Dual)) → next q (λ v. next o (λ ds. Ok ((r, as_dual v) ∷ ds))) ≡ Ok ds
-    → IsSum ds (grown ds no_sum)
-one_more r (Ok v) (Ok es) ds e = let f : (r, as_dual v) ∷ es ≡ ds = cc in subst (λ ds. IsSum ds (grown ds no_sum)) f (λ z. grown_sum (r, as_dual v) es z)
+    → IsSum ds (incremented_dual ds no_sum)
+one_more r (Ok v) (Ok es) ds e = let f : (r, as_dual v) ∷ es ≡ ds = cc in subst (λ ds. IsSum ds (incremented_dual ds no_sum)) f (λ z. grown_sum (r, as_dual v) es z)
 one_more r (Ok v) (Err c) ds e = absurd (cc)
 one_more r (Err c) o ds e = absurd (cc)
 
-terms_sum : (site : Site) (cells : Cells) (rs : List Signed) (ds : List (Bool × Dual)) → IsMore rs → (terms_of rs site cells).out ≡ Ok ds → IsSum ds (grown ds no_sum)
+terms_sum : (site : Site) (cells : Cells) (rs : List Signed) (ds : List (Bool × Dual)) → IsMore rs → (terms_of rs site cells).out ≡ Ok ds → IsSum ds (incremented_dual ds no_sum)
 terms_sum site cells [] ds m e = absurd m
 terms_sum site cells (r ∷ rs) ds m e = one_more r.0 (value_of r.1 site cells).out (terms_of rs site cells).out ds (sym (terms_cons site cells r rs) ∙ e)
 
-by_terms : (site : Site) (cells : Cells) (p : Designator) (kind : AccessKind) (o : Result (List (Bool × Dual)) Cause) → ((ds : List (Bool × Dual)) → o ≡ Ok ds → IsSum ds (grown ds no_sum))
-    → next (sums_of o) (λ d. (grow_by site cells p d).out)
-    ≡ next o (λ ds. (values_of p.subscripts site cells >>= (λ vs. grow site cells p.name kind ds (place_of site p.name (wholes vs)))).out)
-by_terms site cells p kind (Ok ds) h = grown_at site cells p kind ds (grown ds no_sum) (h ds refl)
+by_terms : (site : Site) (cells : Cells) (p : Designator) (kind : AccessKind) (o : Result (List (Bool × Dual)) Cause) → ((ds : List (Bool × Dual)) → o ≡ Ok ds → IsSum ds (incremented_dual ds no_sum))
+    → next (sums_of o) (λ d. (increment_by site cells p d).out)
+    ≡ next o (λ ds. (values_of p.subscripts site cells >>= (λ vs. increment_place site cells p.name kind ds (place_of site p.name (whole_numbers vs)))).out)
+by_terms site cells p kind (Ok ds) h = grown_at site cells p kind ds (incremented_dual ds no_sum) (h ds refl)
 by_terms site cells p kind (Err c) h = refl
 
 chain_is : (site : Site) (cells : Cells) (p : Designator) (e : Expression) (rs : List Signed) (kind : AccessKind) → chain (target_of p) e ≡ Some rs
-    → (chain_sum e site cells >>= (λ d. grow_by site cells p d)).out ≡ (increment site cells p rs kind).out
+    → (chain_sum e site cells >>= (λ d. increment_by site cells p d)).out ≡ (increment site cells p rs kind).out
 chain_is site cells p e rs kind h =
-    out_then (chain_sum e site cells) _ ∙ ap (λ o. next o (λ d. (grow_by site cells p d).out)) (sum_is site cells p.name p.subscripts e rs h)
+    out_then (chain_sum e site cells) _ ∙ ap (λ o. next o (λ d. (increment_by site cells p d).out)) (sum_is site cells p.name p.subscripts e rs h)
     ∙ by_terms site cells p kind (terms_of rs site cells).out (λ ds g. terms_sum site cells rs ds (chain_more (target_of p) e rs h) g)
     ∙ sym (out_then (inside (right_side p.name) (terms_of rs site cells)) _)
 
 by_value : (site : Site) (cells : Cells) (p : Designator) (kind : AccessKind) (q : Result Value Cause)
-    → next q (λ v. (grow_by site cells p (as_dual v)).out)
-    ≡ next (added_to [] false q) (λ ds. (values_of p.subscripts site cells >>= (λ vs. grow site cells p.name kind ds (place_of site p.name (wholes vs)))).out)
+    → next q (λ v. (increment_by site cells p (as_dual v)).out)
+    ≡ next (added_to [] false q) (λ ds. (values_of p.subscripts site cells >>= (λ vs. increment_place site cells p.name kind ds (place_of site p.name (whole_numbers vs)))).out)
 by_value site cells p kind (Ok v) = grown_at site cells p kind ((false, as_dual v) ∷ []) (as_dual v) (λ z. refl)
 by_value site cells p kind (Err c) = refl
 
 sum_form : (site : Site) (cells : Cells) (p : Designator) (e : Expression) (rs : List Signed) (kind : AccessKind) → first_of_sum (target_of p) e ≡ Some rs
-    → (value_of (front e) site cells >>= (λ v. grow_by site cells p (as_dual v))).out ≡ (increment site cells p rs kind).out
+    → (value_of (front e) site cells >>= (λ v. increment_by site cells p (as_dual v))).out ≡ (increment site cells p rs kind).out
 sum_form site cells p (binary Add r b) rs kind h = by_test (same_expression (target_of p) b) h
   where
-    by_test : (q : Bool) → (if q then Some ((false, r) ∷ []) else None) ≡ Some rs → (value_of r site cells >>= (λ v. grow_by site cells p (as_dual v))).out ≡ (increment site cells p rs kind).out
+    by_test : (q : Bool) → (if q then Some ((false, r) ∷ []) else None) ≡ Some rs → (value_of r site cells >>= (λ v. increment_by site cells p (as_dual v))).out ≡ (increment site cells p rs kind).out
     by_test true g =
         let f : (false, r) ∷ [] ≡ rs = cc in
         out_then (value_of r site cells) _ ∙ by_value site cells p kind (value_of r site cells).out
-        ∙ ap (λ o. next o (λ ds. (values_of p.subscripts site cells >>= (λ vs. grow site cells p.name kind ds (place_of site p.name (wholes vs)))).out))
+        ∙ ap (λ o. next o (λ ds. (values_of p.subscripts site cells >>= (λ vs. increment_place site cells p.name kind ds (place_of site p.name (whole_numbers vs)))).out))
         (sym (terms_one site cells (false, r) (value_of r site cells).log (value_of r site cells).out))
         ∙ sym (out_then (inside (right_side p.name) (terms_of ((false, r) ∷ []) site cells)) _) ∙ ap (λ (qs : List Signed). (increment site cells p qs kind).out) f
     by_test false g = absurd (cc)
@@ -319,10 +319,10 @@ sum_form site cells p (minus a) rs kind h = absurd (cc)
 sum_form site cells p (power a n) rs kind h = absurd (cc)
 sum_form site cells p (call f s) rs kind h = absurd (cc)
 
-plain_is : (site : Site) (cells : Cells) (p : Designator) (e : Expression) → (value_of e site cells >>= (λ v. put_by site cells p v)).out ≡ (plain site cells p e).out
+plain_is : (site : Site) (cells : Cells) (p : Designator) (e : Expression) → (value_of e site cells >>= (λ v. put_by site cells p v)).out ≡ (plain_assignment site cells p e).out
 plain_is site cells p e =
     out_then (value_of e site cells) _
-    ∙ next_same (value_of e site cells).out _ _ (λ v. located_then site cells p (put site cells p.name v) ∙ sym (out_then (values_of p.subscripts site cells) (λ vs. put site cells p.name v (place_of site p.name (wholes vs)))))
+    ∙ next_same (value_of e site cells).out _ _ (λ v. located_then site cells p (put site cells p.name v) ∙ sym (out_then (values_of p.subscripts site cells) (λ vs. put site cells p.name v (place_of site p.name (whole_numbers vs)))))
     ∙ sym (out_then (inside (right_side p.name) (value_of e site cells)) _)
 
 free_inner : (x : List ℕ) (o : Option (List Signed)) (rs : List Signed) → if_free x o ≡ Some rs → o ≡ Some rs
@@ -346,19 +346,19 @@ same_form_is (Some Sum) (Some Chain) h = absurd (cc)
 
 by_rest : (site : Site) (cells : Cells) (atomic : Bool) (p : Designator) (e : Expression) (a b : Option (List Signed))
     → if_free p.name (chain (target_of p) e) ≡ a → if_free p.name (first_of_sum (target_of p) e) ≡ b
-    → (by_form (if is_some a then Some Chain else if is_some b then Some Sum else None) site cells p e).out ≡ (assigned site cells atomic p e (either a b)).out
+    → (by_form (if is_some a then Some Chain else if is_some b then Some Sum else None) site cells p e).out ≡ (assignment_by site cells atomic p e (either a b)).out
 by_rest site cells atomic p e (Some rs) b h g = chain_is site cells p e rs (increment_kind atomic (site.pluses p.name)) (free_inner p.name (chain (target_of p) e) rs h)
 by_rest site cells atomic p e None (Some rs) h g = sum_form site cells p e rs (increment_kind atomic (site.pluses p.name)) (free_inner p.name (first_of_sum (target_of p) e) rs g)
 by_rest site cells atomic p e None None h g = plain_is site cells p e
 
 by_ring : (site : Site) (cells : Cells) (atomic : Bool) (p : Designator) (e : Expression) (b : Bool)
-    → (by_form (if b then increment_form p e else None) site cells p e).out ≡ (assigned site cells atomic p e (if b then rest_terms p e else None)).out
+    → (by_form (if b then increment_form p e else None) site cells p e).out ≡ (assignment_by site cells atomic p e (if b then rest_terms p e else None)).out
 by_ring site cells atomic p e true = by_rest site cells atomic p e (if_free p.name (chain (target_of p) e)) (if_free p.name (first_of_sum (target_of p) e)) refl refl
 by_ring site cells atomic p e false = plain_is site cells p e
 
 -- the run by the form that fits is the run of the assignment
 pub by_form_is : (names : Names) (cells : Cells) (atomic : Bool) (p : Designator) (e : Expression) (form : Option IncrementForm) → same_form form (form_in names p e) ≡ true
-    → (by_form form (table_site names) cells p e).out ≡ (assigned (table_site names) cells atomic p e (increment_terms (is_ring_in names) p e)).out
+    → (by_form form (table_site names) cells p e).out ≡ (assignment_by (table_site names) cells atomic p e (increment_terms (is_ring_in names) p e)).out
 by_form_is names cells atomic p e form h =
     ap (λ f. (by_form f (table_site names) cells p e).out) (same_form_is form (form_in names p e) h) ∙ by_ring (table_site names) cells atomic p e (is_ring_in names p.name)
 

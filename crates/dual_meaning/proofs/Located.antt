@@ -6,12 +6,12 @@ use Rattle.store_core.specs.Keys.{place_in_slot, place_of as place_in_shapes}
 use Rattle.fl_ast.specs.Tree.{Expressions}
 use Rattle.meaning.specs.declared.value.Value.{Value}
 use Rattle.meaning.specs.declared.value.Cause.{Cause}
-use Rattle.meaning.specs.Values.{wholes}
-use Rattle.meaning.specs.Logs.{Log, pure, joined}
+use Rattle.meaning.specs.Values.{whole_numbers}
+use Rattle.meaning.specs.Logs.{Log, pure, continuation}
 use Rattle.meaning.specs.Expressions.{values_of}
-use Rattle.dual_meaning.specs.Answers.{numbers_of, located}
+use Rattle.dual_meaning.specs.Answers.{numbers_of, location_of}
 use Rattle.resolved.specs.SlotTables.{Names, table_site}
-use Rattle.resolved.specs.Codes.{slot_name, shape_name}
+use Rattle.resolved.specs.ResolvedExprs.{slot_name, shape_name}
 use Rattle.meaning.specs.Sites.{Cells, Site, place_of}
 
 by_shapes : (all shapes : List Shape) (slot : ℕ) (numbers : List ℤ) → slot < length shapes
@@ -25,11 +25,11 @@ pub place_by_slot : (names : Names) (slot : ℕ) (numbers : List ℤ) → slot <
 place_by_slot names slot numbers h = by_shapes names.0 names.0 slot numbers h
 
 joined_place : (l : Log) (r : Result (List Value) Cause) (f : List ℤ → Option ℕ) (zs : List ℤ) → numbers_of r ≡ Ok zs
-    → (joined {X = Cause} {A = List Value} {B = Option ℕ} l r (λ vs. pure (f (wholes vs)))).out ≡ Ok (f zs)
-joined_place l (Ok vs) f zs e = let q : wholes vs ≡ zs = cc in ap (λ ws. Ok (f ws)) q
+    → (continuation {X = Cause} {A = List Value} {B = Option ℕ} l r (λ vs. pure (f (whole_numbers vs)))).out ≡ Ok (f zs)
+joined_place l (Ok vs) f zs e = let q : whole_numbers vs ≡ zs = cc in ap (λ ws. Ok (f ws)) q
 joined_place l (Err c) f zs e = absurd (cc)
 
 -- where the numbers of the subscripts are these, the place is theirs
 pub located_at : (site : Site) (cells : Cells) (name : List ℕ) (subscripts : Expressions) (zs : List ℤ) → numbers_of (values_of subscripts site cells).out ≡ Ok zs
-    → (located site cells (record { name = name; subscripts = subscripts })).out ≡ Ok (place_of site name zs)
+    → (location_of site cells (record { name = name; subscripts = subscripts })).out ≡ Ok (place_of site name zs)
 located_at site cells name subscripts zs e = joined_place (values_of subscripts site cells).log (values_of subscripts site cells).out (place_of site name) zs e

@@ -80,18 +80,18 @@ pub opening_run : (es : List Shape) (ds : List Decl) (pushed : List ℕ → Bool
     → (run_all body (opening_site ds es pushed) cells).out ≡ (run_all body (table_site (names_of es ds)) cells).out
 opening_run es ds pushed body cells w q = runs_by_keys (opening_site ds es pushed) (table_site (names_of es ds)) refl w (λ x. sym (ring_by_names es ds x)) body q cells
 
-opened : (es : List Shape) (ds : List Decl) (body steps : Statements) (names : Names) (old : Cells) (pushed : List ℕ → Bool) → data_width ds ≡ W64 → names ≡ names_of es ds → steps ≡ body → are_sequential body ≡ true
-    → (run_all body (opening_site ds es pushed) old).out ≡ (run_all steps (table_site names) old).out
-opened es ds body steps names old pushed w n s q =
-    opening_run es ds pushed body old w q ∙ ap (λ b. (run_all b (table_site (names_of es ds)) old).out) (sym s) ∙ ap (λ m. (run_all steps (table_site m) old).out) (sym n)
+opened : (es : List Shape) (ds : List Decl) (body stmts : Statements) (names : Names) (old : Cells) (pushed : List ℕ → Bool) → data_width ds ≡ W64 → names ≡ names_of es ds → stmts ≡ body → are_sequential body ≡ true
+    → (run_all body (opening_site ds es pushed) old).out ≡ (run_all stmts (table_site names) old).out
+opened es ds body stmts names old pushed w n s q =
+    opening_run es ds pushed body old w q ∙ ap (λ b. (run_all b (table_site (names_of es ds)) old).out) (sym s) ∙ ap (λ m. (run_all stmts (table_site m) old).out) (sym n)
 
 -- a run in the table that ended
-pub ran_ok : (es : List Shape) (ds : List Decl) (body steps : Statements) (names : Names) (old new : Cells) → names ≡ names_of es ds → steps ≡ body → are_sequential body ≡ true
-    → (run_all steps (table_site names) old).out ≡ Ok new → (are_sequential body ≡ true) × (data_width ds ≡ W64 → (pushed : List ℕ → Bool) → (run_all body (opening_site ds es pushed) old).out ≡ Ok new)
-ran_ok es ds body steps names old new n s q e = (q, λ w pushed. opened es ds body steps names old pushed w n s q ∙ e)
+pub ran_ok : (es : List Shape) (ds : List Decl) (body stmts : Statements) (names : Names) (old new : Cells) → names ≡ names_of es ds → stmts ≡ body → are_sequential body ≡ true
+    → (run_all stmts (table_site names) old).out ≡ Ok new → (are_sequential body ≡ true) × (data_width ds ≡ W64 → (pushed : List ℕ → Bool) → (run_all body (opening_site ds es pushed) old).out ≡ Ok new)
+ran_ok es ds body stmts names old new n s q e = (q, λ w pushed. opened es ds body stmts names old pushed w n s q ∙ e)
 
 -- and one that stopped
-pub ran_err : (A B : Type 0) (es : List Shape) (ds : List Decl) (body steps : Statements) (names : Names) (old new : Cells) (e : RunStop) → names ≡ names_of es ds → steps ≡ body
-    → are_sequential body ≡ true → Ran {A = A} (Err e) new (run_all steps (table_site names) old).out → RunsSequentially {A = B} es ds body old new (Err (of_stop e))
-ran_err A B es ds body steps names old new (stop.Trap t) n s q e = (q, λ w pushed. opened es ds body steps names old pushed w n s q ∙ e)
-ran_err A B es ds body steps names old new stop.Memory n s q e = tt
+pub ran_err : (A B : Type 0) (es : List Shape) (ds : List Decl) (body stmts : Statements) (names : Names) (old new : Cells) (e : RunStop) → names ≡ names_of es ds → stmts ≡ body
+    → are_sequential body ≡ true → Ran {A = A} (Err e) new (run_all stmts (table_site names) old).out → RunsSequentially {A = B} es ds body old new (Err (of_stop e))
+ran_err A B es ds body stmts names old new (stop.Trap t) n s q e = (q, λ w pushed. opened es ds body stmts names old pushed w n s q ∙ e)
+ran_err A B es ds body stmts names old new stop.Memory n s q e = tt

@@ -11,11 +11,11 @@ use Rattle.meaning.specs.declared.value.TrapAt.{TrapAt}
 use Rattle.meaning.specs.declared.value.IterationCount.{IterationCount}
 use Rattle.meaning.specs.Logs.{Log, single, pushes, Traced, ◌>>=◌, at_line}
 use Rattle.meaning.specs.Sites.{Cells, Site, in_turn}
-use Rattle.meaning.specs.Statements.{Run, noted, assigned, turns_of, value_at, set_at, turns, one_turn, loop_words, run_turns, in_arm, run, run_all}
+use Rattle.meaning.specs.Statements.{Run, with_log, assignment_by, turns_of, value_at, set_at, turns, one_turn, loop_words, run_turns, in_arm, run, run_all}
 use Rattle.meaning.specs.Sequential.{are_sequential}
 use Rattle.resolved.specs.SlotTables.{Names, table_site, is_ring_in}
-use Rattle.resolved.specs.Codes.{slot_name}
-use Rattle.resolved.specs.Steps.{form_in, same_form}
+use Rattle.resolved.specs.ResolvedExprs.{slot_name}
+use Rattle.resolved.specs.ResolvedStmts.{form_in, same_form}
 use Rattle.dual_meaning.specs.declared.runner.RunStop.{RunStop}
 use Rattle.dual_meaning.specs.declared.runner.RunStop.TheVariants as stop
 use Rattle.dual_meaning.specs.Running.{by_form, Ran}
@@ -25,10 +25,10 @@ use Rattle.dual_meaning.proofs.Counts.{computed}
 use Rattle.dual_meaning.proofs.Located.{place_by_slot}
 use Rattle.meaning.proofs.RunsByKeys.{line_agree, run_all_agree}
 
-noted_out : (t : Traced TrapAt Cells) (l : Log) → (t >>= noted l).out ≡ t.out
-noted_out t l = out_then t (noted l) ∙ by_out t.out
+noted_out : (t : Traced TrapAt Cells) (l : Log) → (t >>= with_log l).out ≡ t.out
+noted_out t l = out_then t (with_log l) ∙ by_out t.out
   where
-    by_out : (r : Result Cells TrapAt) → next r (λ c. (noted l c).out) ≡ r
+    by_out : (r : Result Cells TrapAt) → next r (λ c. (with_log l c).out) ≡ r
     by_out (Ok c) = refl
     by_out (Err x) = refl
 
@@ -39,7 +39,7 @@ in_arm_out m f c = noted_out (f c) (single (pushes m))
 pub assignment_run : (names : Names) (line : ℕ) (atomic : Bool) (p : Designator) (e : Expression) (cells : Cells) (form : Option IncrementForm) → same_form form (form_in names p e) ≡ true
     → (run (assignment line atomic p e) (table_site names) cells).out ≡ (at_line line (by_form form (table_site names) cells p e)).out
 assignment_run names line atomic p e cells form h =
-    line_agree line (assigned (table_site names) cells atomic p e (increment_terms (is_ring_in names) p e)) (by_form form (table_site names) cells p e) (sym (by_form_is names cells atomic p e form h))
+    line_agree line (assignment_by (table_site names) cells atomic p e (increment_terms (is_ring_in names) p e)) (by_form form (table_site names) cells p e) (sym (by_form_is names cells atomic p e form h))
 
 -- a loop
 pub loop_run : (line number : ℕ) (var : List ℕ) (first last : Expression) (step : Option Expression) (body : Statements) (site : Site) (cells : Cells) (t : IterationCount)

@@ -3,7 +3,7 @@ use Rattle.std.specs.Prelude.{◌≡◌, ℕ, ℤ, List, ◌++◌, Option, Resul
 use Rattle.fl_ast.specs.Tree.{Designator}
 use Rattle.meaning.specs.declared.value.Value.{Value}
 use Rattle.meaning.specs.declared.value.Cause.{Cause}
-use Rattle.meaning.specs.Values.{wholes}
+use Rattle.meaning.specs.Values.{whole_numbers}
 use Rattle.meaning.specs.Logs.{Traced, pure, ◌>>=◌}
 use Rattle.meaning.specs.Sites.{Cells, Site, place_of}
 use Rattle.meaning.specs.Expressions.{values_of, read}
@@ -24,16 +24,16 @@ AnswersBy view (Err Memory) r = Unit {0}
 
 -- the whole numbers of values
 abbrev pub numbers_of : Result (List Value) Cause → Result (List ℤ) Cause
-numbers_of (Ok vs) = Ok (wholes vs)
+numbers_of (Ok vs) = Ok (whole_numbers vs)
 numbers_of (Err c) = Err c
 
 -- the place of an occurrence, None outside the bounds
-abbrev pub located : Site → Cells → Designator → Traced Cause (Option ℕ)
-located site cells p = values_of p.subscripts site cells >>= (λ subscripts. pure (place_of site p.name (wholes subscripts)))
+abbrev pub location_of : Site → Cells → Designator → Traced Cause (Option ℕ)
+location_of site cells p = values_of p.subscripts site cells >>= (λ subscripts. pure (place_of site p.name (whole_numbers subscripts)))
 
 -- the value of an occurrence
-abbrev pub read_spot : Site → Cells → Designator → Traced Cause Value
-read_spot site cells p = values_of p.subscripts site cells >>= read site cells p.name
+abbrev pub read_occurrence : Site → Cells → Designator → Traced Cause Value
+read_occurrence site cells p = values_of p.subscripts site cells >>= read site cells p.name
 
 -- values that stand before others
 abbrev pub with_front : {A : Type 0} → List A → Result (List A) Cause → Result (List A) Cause

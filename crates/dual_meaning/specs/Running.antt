@@ -29,36 +29,36 @@ use Rattle.meaning.specs.Logs.{Traced, pure, lift, ◌>>=◌}
 use Rattle.meaning.specs.Sites.{Cells, Site}
 use Rattle.meaning.specs.Expressions.{content, value_of}
 use Rattle.meaning.specs.Statements.{put}
-use Rattle.dual_meaning.specs.Answers.{located}
+use Rattle.dual_meaning.specs.Answers.{location_of}
 
 -- the subscripts, the check of bounds, and the store
 abbrev pub put_by : Site → Cells → Designator → Value → Traced Cause Cells
-put_by site cells p v = located site cells p >>= put site cells p.name v
+put_by site cells p v = location_of site cells p >>= put site cells p.name v
 
-abbrev pub grow_cell_by : Cells → List ℕ → Dual → ℕ → Option Value → Traced Cause Cells
-grow_cell_by cells x d p None = lift (Err (Unset x))
-grow_cell_by cells x d p (Some v) = pure (slice_set cells p (Some (Ring (dual_add (as_dual v) d))))
+abbrev pub increment_cell_by : Cells → List ℕ → Dual → ℕ → Option Value → Traced Cause Cells
+increment_cell_by cells x d p None = lift (Err (Unset x))
+increment_cell_by cells x d p (Some v) = pure (slice_set cells p (Some (Ring (dual_add (as_dual v) d))))
 
-abbrev pub grow_at : Cells → List ℕ → Dual → Option ℕ → Traced Cause Cells
-grow_at cells x d None = lift (Err (Bounds x))
-grow_at cells x d (Some p) = grow_cell_by cells x d p (content cells p)
+abbrev pub increment_at : Cells → List ℕ → Dual → Option ℕ → Traced Cause Cells
+increment_at cells x d None = lift (Err (Bounds x))
+increment_at cells x d (Some p) = increment_cell_by cells x d p (content cells p)
 
 -- the subscripts, the checks of bounds and of being set, and the update
-abbrev pub grow_by : Site → Cells → Designator → Dual → Traced Cause Cells
-grow_by site cells p d = located site cells p >>= grow_at cells p.name d
+abbrev pub increment_by : Site → Cells → Designator → Dual → Traced Cause Cells
+increment_by site cells p d = location_of site cells p >>= increment_at cells p.name d
 
-abbrev pub summed : BinOp → Dual → Dual → Dual
-summed Add d e = dual_add d e
-summed Sub d e = dual_sub d e
-summed Mul d e = dual_add d e
-summed Div d e = dual_add d e
+abbrev pub sum_with : BinOp → Dual → Dual → Dual
+sum_with Add d e = dual_add d e
+sum_with Sub d e = dual_sub d e
+sum_with Mul d e = dual_add d e
+sum_with Div d e = dual_add d e
 
 abbrev pub no_sum : Dual
 no_sum = record { value = 0; tangent = 0 }
 
 -- the sum of a chain's terms after the first
 abbrev pub chain_sum : Expression → Site → Cells → Traced Cause Dual
-chain_sum (binary op a b) site cells = chain_sum a site cells >>= (λ d. value_of b site cells >>= (λ v. pure (summed op d (as_dual v))))
+chain_sum (binary op a b) site cells = chain_sum a site cells >>= (λ d. value_of b site cells >>= (λ v. pure (sum_with op d (as_dual v))))
 chain_sum (literal n k) site cells = pure no_sum
 chain_sum (get x s) site cells = pure no_sum
 chain_sum (minus a) site cells = pure no_sum
@@ -76,8 +76,8 @@ front (call f s) = call f s
 
 abbrev pub by_form : Option IncrementForm → Site → Cells → Designator → Expression → Traced Cause Cells
 by_form None site cells p e = value_of e site cells >>= (λ v. put_by site cells p v)
-by_form (Some Chain) site cells p e = chain_sum e site cells >>= (λ d. grow_by site cells p d)
-by_form (Some Sum) site cells p e = value_of (front e) site cells >>= (λ v. grow_by site cells p (as_dual v))
+by_form (Some Chain) site cells p e = chain_sum e site cells >>= (λ d. increment_by site cells p d)
+by_form (Some Sum) site cells p e = value_of (front e) site cells >>= (λ v. increment_by site cells p (as_dual v))
 
 -- bounds of the index kind, with the number of turns between them
 pub record IsCounted (t : IterationCount) : Type 0 where
@@ -101,9 +101,9 @@ abbrev pub of_stop : RunStop → RunError
 of_stop (run.Trap t) = failed.Trap t
 of_stop run.Memory = failed.Memory
 
-abbrev pub stopped : ℕ → EvalStop → RunStop
-stopped line (eval.Trap c) = run.Trap (record { line = line; cause = c })
-stopped line eval.Memory = run.Memory
+abbrev pub stop_at : ℕ → EvalStop → RunStop
+stop_at line (eval.Trap c) = run.Trap (record { line = line; cause = c })
+stop_at line eval.Memory = run.Memory
 
 -- the cells after a change or its cause, unless memory is wanting
 abbrev pub Sets : {A : Type 0} → Result A EvalStop → Cells → Result Cells Cause → Type 0

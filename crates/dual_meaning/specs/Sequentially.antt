@@ -8,7 +8,7 @@ use Rattle.store_core.specs.Keys.{keys_of, with_scalars}
 use Rattle.meaning.specs.Sequential.{are_sequential}
 use Rattle.meaning.specs.Sites.{Cells, data_width, opening_site}
 use Rattle.meaning.specs.Statements.{run_all}
-use Rattle.resolved.specs.Steps.{are_statements_placed}
+use Rattle.resolved.specs.ResolvedStmts.{are_statements_placed}
 use Rattle.dual_meaning.specs.declared.sequential.RunError.{RunError}
 use Rattle.dual_meaning.specs.declared.sequential.RunError.TheVariants.{Trap, Unplaced, Parallel, TooManyPlaces, Memory}
 

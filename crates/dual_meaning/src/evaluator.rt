@@ -3,14 +3,14 @@ ghost use Rattle.fl_ast.specs.Tree.{minus, power as power_tree, call as call_tre
 ghost use Rattle.meaning.specs.Values.{literal_value, binary_result};
 ghost use Rattle.meaning.specs.Expressions.{value_of, values_of, content, read_place, holds as holds_lem};
 ghost use Rattle.resolved.specs.SlotTables.{table_site};
-ghost use Rattle.resolved.specs.Codes.{code_back, codes_back, spot_back, test_back, slot_name, is_within, are_within, is_spot_within, is_test_within};
-ghost use Rattle.dual_meaning.specs.Answers.{Answers, AnswersBy, numbers_of, located, read_spot};
+ghost use Rattle.resolved.specs.ResolvedExprs.{expression_back, expressions_back, place_back, condition_back, slot_name, is_within, are_within, is_place_within, is_condition_within};
+ghost use Rattle.dual_meaning.specs.Answers.{Answers, AnswersBy, numbers_of, location_of, read_occurrence};
 ghost use Rattle.meaning.specs.declared.value.Cause.TheVariants.{Bounds as bounds, Unset as unset_name};
 ghost use Rattle.dual_meaning.specs.declared.evaluator.EvalStop.TheVariants.{Trap as trap, Memory as memory};
 
 use fl_ast::{BinOp, Fun, Kind, Memory, Name};
 use fl_base::Items;
-use meaning::{Cause, Value, binary, called, literal, related};
+use meaning::{Cause, Value, binary, intrinsic, literal, relates};
 use resolved::{ResolvedCond, ResolvedExpr, ResolvedPlace, SlotTable};
 use smallvec::SmallVec;
 use std::alloc::{AllocError, AllocFailed, Global};
@@ -61,14 +61,14 @@ pub fn evaluate(
     alloc: Global,
     table: &SlotTable,
     cells: &[Option<Value>],
-    code: &ResolvedExpr,
+    expr: &ResolvedExpr,
 ) -> Result<Value, EvalStop>
-    requires { is_within (length table.now.0) code.now ≡ true }
-    ensures { Answers result (value_of (code_back table.now.0 code.now) (table_site table.now) cells.now).out }
+    requires { is_within (length table.now.0) expr.now ≡ true }
+    ensures { Answers result (value_of (expression_back table.now.0 expr.now) (table_site table.now) cells.now).out }
 {
-    match code {
+    match expr {
         ResolvedExpr::Lit { word, kind } => constant(*word, *kind),
-        ResolvedExpr::Get(spot) => content_of(alloc, table, cells, spot),
+        ResolvedExpr::Get(occurrence) => content_of(alloc, table, cells, occurrence),
         ResolvedExpr::Neg(inner) => negation(alloc, table, cells, inner.get()),
         ResolvedExpr::Bin { op, left, right } => {
             let first = evaluate(alloc, table, cells, left.get())?;
@@ -91,13 +91,13 @@ fn content_of(
     alloc: Global,
     table: &SlotTable,
     cells: &[Option<Value>],
-    spot: &ResolvedPlace,
+    occurrence: &ResolvedPlace,
 ) -> Result<Value, EvalStop>
-    requires { is_spot_within (length table.now.0) spot.now ≡ true }
-    ensures { Answers result (read_spot (table_site table.now) cells.now (spot_back table.now.0 spot.now)).out }
+    requires { is_place_within (length table.now.0) occurrence.now ≡ true }
+    ensures { Answers result (read_occurrence (table_site table.now) cells.now (place_back table.now.0 occurrence.now)).out }
 {
-    let place = locate(alloc, table, cells, spot)?;
-    read(alloc, table, cells, spot.slot, place)
+    let place = locate(alloc, table, cells, occurrence)?;
+    read(alloc, table, cells, occurrence.slot, place)
 }
 
 #[cycle(evaluate)]
@@ -108,7 +108,7 @@ fn negation(
     inner: &ResolvedExpr,
 ) -> Result<Value, EvalStop>
     requires { is_within (length table.now.0) inner.now ≡ true }
-    ensures { Answers result (value_of (minus (code_back table.now.0 inner.now)) (table_site table.now) cells.now).out }
+    ensures { Answers result (value_of (minus (expression_back table.now.0 inner.now)) (table_site table.now) cells.now).out }
 {
     let value = evaluate(alloc, table, cells, inner)?;
     Ok(value.neg()?)
@@ -129,7 +129,7 @@ fn power(
     exponent: u32,
 ) -> Result<Value, EvalStop>
     requires { is_within (length table.now.0) base.now ≡ true }
-    ensures { Answers result (value_of (power_tree (code_back table.now.0 base.now) exponent) (table_site table.now) cells.now).out }
+    ensures { Answers result (value_of (power_tree (expression_back table.now.0 base.now) exponent) (table_site table.now) cells.now).out }
 {
     let value = evaluate(alloc, table, cells, base)?;
     Ok(value.pow(exponent)?)
@@ -144,21 +144,21 @@ fn call(
     args: &[ResolvedExpr],
 ) -> Result<Value, EvalStop>
     requires { are_within (length table.now.0) args.now ≡ true }
-    ensures { Answers result (value_of (call_tree fun (codes_back table.now.0 args.now)) (table_site table.now) cells.now).out }
+    ensures { Answers result (value_of (call_tree fun (expressions_back table.now.0 args.now)) (table_site table.now) cells.now).out }
 {
     match args {
         [only] => {
             let value = evaluate(alloc, table, cells, only)?;
-            Ok(called(fun, &[value])?)
+            Ok(intrinsic(fun, &[value])?)
         }
         [left, right] => {
             let first = evaluate(alloc, table, cells, left)?;
             let second = evaluate(alloc, table, cells, right)?;
-            Ok(called(fun, &[first, second])?)
+            Ok(intrinsic(fun, &[first, second])?)
         }
         others => {
             let values = evaluate_all(alloc, table, cells, others)?;
-            Ok(called(fun, values.as_slice())?)
+            Ok(intrinsic(fun, values.as_slice())?)
         }
     }
 }
@@ -168,14 +168,14 @@ fn evaluate_all(
     alloc: Global,
     table: &SlotTable,
     cells: &[Option<Value>],
-    codes: &[ResolvedExpr],
+    exprs: &[ResolvedExpr],
 ) -> Result<Items<Value>, EvalStop>
-    requires { are_within (length table.now.0) codes.now ≡ true }
-    ensures { Answers result (values_of (codes_back table.now.0 codes.now) (table_site table.now) cells.now).out }
+    requires { are_within (length table.now.0) exprs.now ≡ true }
+    ensures { Answers result (values_of (expressions_back table.now.0 exprs.now) (table_site table.now) cells.now).out }
 {
     let mut all = Items::new(alloc);
-    for code in codes {
-        let value = evaluate(alloc, table, cells, code)?;
+    for expr in exprs {
+        let value = evaluate(alloc, table, cells, expr)?;
         all.push(value)?;
     }
     Ok(all)
@@ -187,16 +187,16 @@ fn evaluate_subscripts(
     alloc: Global,
     table: &SlotTable,
     cells: &[Option<Value>],
-    codes: &[ResolvedExpr],
+    exprs: &[ResolvedExpr],
 ) -> Result<SmallVec<i64, 3>, EvalStop>
-    requires { are_within (length table.now.0) codes.now ≡ true }
+    requires { are_within (length table.now.0) exprs.now ≡ true }
     ensures { AnswersBy (λ numbers. numbers.items) result
-        (numbers_of (values_of (codes_back table.now.0 codes.now) (table_site table.now) cells.now).out) }
+        (numbers_of (values_of (expressions_back table.now.0 exprs.now) (table_site table.now) cells.now).out) }
 {
     let mut numbers = SmallVec::new(alloc);
-    for code in codes {
-        let value = evaluate(alloc, table, cells, code)?;
-        numbers.push(i64::from(value.whole()))?;
+    for expr in exprs {
+        let value = evaluate(alloc, table, cells, expr)?;
+        numbers.push(i64::from(value.whole_number()))?;
     }
     Ok(numbers)
 }
@@ -207,15 +207,15 @@ pub(crate) fn locate(
     alloc: Global,
     table: &SlotTable,
     cells: &[Option<Value>],
-    spot: &ResolvedPlace,
+    occurrence: &ResolvedPlace,
 ) -> Result<Option<u32>, EvalStop>
-    requires { is_spot_within (length table.now.0) spot.now ≡ true }
-    ensures { Answers result (located (table_site table.now) cells.now (spot_back table.now.0 spot.now)).out }
+    requires { is_place_within (length table.now.0) occurrence.now ≡ true }
+    ensures { Answers result (location_of (table_site table.now) cells.now (place_back table.now.0 occurrence.now)).out }
 {
-    if spot.subscripts.is_empty() {
-        Ok(table.layout().place_in(spot.slot, &[]))
+    if occurrence.subscripts.is_empty() {
+        Ok(table.layout().place_in(occurrence.slot, &[]))
     } else {
-        locate_element(alloc, table, cells, spot)
+        locate_element(alloc, table, cells, occurrence)
     }
 }
 
@@ -225,13 +225,13 @@ fn locate_element(
     alloc: Global,
     table: &SlotTable,
     cells: &[Option<Value>],
-    spot: &ResolvedPlace,
+    occurrence: &ResolvedPlace,
 ) -> Result<Option<u32>, EvalStop>
-    requires { is_spot_within (length table.now.0) spot.now ≡ true }
-    ensures { Answers result (located (table_site table.now) cells.now (spot_back table.now.0 spot.now)).out }
+    requires { is_place_within (length table.now.0) occurrence.now ≡ true }
+    ensures { Answers result (location_of (table_site table.now) cells.now (place_back table.now.0 occurrence.now)).out }
 {
-    let numbers = evaluate_subscripts(alloc, table, cells, spot.subscripts.as_slice())?;
-    Ok(table.layout().place_in(spot.slot, numbers.as_slice()))
+    let numbers = evaluate_subscripts(alloc, table, cells, occurrence.subscripts.as_slice())?;
+    Ok(table.layout().place_in(occurrence.slot, numbers.as_slice()))
 }
 
 /// The value at a place of the name of a slot.
@@ -246,20 +246,16 @@ fn read(
     ensures { Answers result (read_place (table_site table.now) cells.now (slot_name table.now.0 slot) place).out }
 {
     match place {
-        None => Err(out_of_bounds(alloc, table, slot)?),
+        None => Err(bounds_stop(alloc, table, slot)?),
         Some(place) => match cell(cells, place) {
             Some(value) => Ok(value),
-            None => Err(unset(alloc, table, slot)?),
+            None => Err(unset_stop(alloc, table, slot)?),
         },
     }
 }
 
 /// A subscript of the name of a slot is out of bounds.
-pub(crate) fn out_of_bounds(
-    alloc: Global,
-    table: &SlotTable,
-    slot: usize,
-) -> Result<EvalStop, Memory>
+pub(crate) fn bounds_stop(alloc: Global, table: &SlotTable, slot: usize) -> Result<EvalStop, Memory>
     requires { slot < length table.now.0 }
     ensures { IfOk result (λ stop. stop ≡ trap (bounds (slot_name table.now.0 slot))) }
 {
@@ -268,7 +264,7 @@ pub(crate) fn out_of_bounds(
 }
 
 /// The name of a slot was read before it was set.
-pub(crate) fn unset(alloc: Global, table: &SlotTable, slot: usize) -> Result<EvalStop, Memory>
+pub(crate) fn unset_stop(alloc: Global, table: &SlotTable, slot: usize) -> Result<EvalStop, Memory>
     requires { slot < length table.now.0 }
     ensures { IfOk result (λ stop. stop ≡ trap (unset_name (slot_name table.now.0 slot))) }
 {
@@ -301,14 +297,14 @@ pub fn holds(
     cells: &[Option<Value>],
     test: &ResolvedCond,
 ) -> Result<bool, EvalStop>
-    requires { is_test_within (length table.now.0) test.now ≡ true }
-    ensures { Answers result (holds_lem (test_back table.now.0 test.now) (table_site table.now) cells.now).out }
+    requires { is_condition_within (length table.now.0) test.now ≡ true }
+    ensures { Answers result (holds_lem (condition_back table.now.0 test.now) (table_site table.now) cells.now).out }
 {
     match test {
         ResolvedCond::Rel { op, left, right } => {
             let first = evaluate(alloc, table, cells, left)?;
             let second = evaluate(alloc, table, cells, right)?;
-            Ok(related(*op, first, second))
+            Ok(relates(*op, first, second))
         }
         ResolvedCond::Not(inner) => {
             let inner = holds(alloc, table, cells, inner.get())?;

@@ -6,7 +6,7 @@ mod runner;
 mod sequential;
 
 pub use evaluator::{EvalStop, evaluate, holds};
-pub use runner::{RunStop, run_steps};
+pub use runner::{RunStop, run_statements};
 pub use sequential::{RunError, run_sequential};
 
 #[cfg(test)]

@@ -6,14 +6,14 @@ ghost use Rattle.meaning.specs.Expressions.{value_of, holds as holds_lem};
 ghost use Rattle.meaning.specs.Statements.{turns_by, turns_of as turns_of_lem, step_value, set_at, one_turn, turns as turns_lem, run as run_lem, run_all};
 ghost use Rattle.meaning.specs.Sequential.{is_sequential, are_sequential};
 ghost use Rattle.resolved.specs.SlotTables.{table_site};
-ghost use Rattle.resolved.specs.Codes.{code_back, spot_back, test_back, slot_name, is_within, is_spot_within, is_test_within};
-ghost use Rattle.resolved.specs.Steps.{step_back, steps_back, option_back, is_option_within, is_fit, are_fit};
+ghost use Rattle.resolved.specs.ResolvedExprs.{expression_back, place_back, condition_back, slot_name, is_within, is_place_within, is_condition_within};
+ghost use Rattle.resolved.specs.ResolvedStmts.{statement_back, statements_back, option_back, is_option_within, is_fit, are_fit};
 ghost use Rattle.dual_meaning.specs.Answers.{Answers};
-ghost use Rattle.dual_meaning.specs.Running.{put_by, grow_by, chain_sum, summed, front as front_lem, by_form, IsCounted, stopped as stopped_lem, Sets, Ran, AnswersAt};
+ghost use Rattle.dual_meaning.specs.Running.{put_by, increment_by, chain_sum, sum_with as sum_with_lem, front as front_lem, by_form, IsCounted, stop_at as stop_at_lem, Sets, Ran, AnswersAt};
 ghost use Rattle.meaning.specs.declared.value.Value.TheVariants.{Index as index_value};
 ghost use Rattle.dual_meaning.specs.declared.runner.RunStop.TheVariants.{Memory as memory};
 
-use crate::evaluator::{EvalStop, cell, evaluate, holds, locate, out_of_bounds, unset};
+use crate::evaluator::{EvalStop, bounds_stop, cell, evaluate, holds, locate, unset_stop};
 use fl_ast::{BinOp, Memory};
 use fl_types::IncrementForm;
 use meaning::{Cause, Dual, IterationCount, TrapAt, Value};
@@ -53,35 +53,35 @@ fn put(
     target: &ResolvedPlace,
     value: Value,
 ) -> Result<(), EvalStop>
-    requires { is_spot_within (length table.now.0) target.now ≡ true }
+    requires { is_place_within (length table.now.0) target.now ≡ true }
     ensures { Sets result cells.new.items
-        (put_by (table_site table.now) cells.old.items (spot_back table.now.0 target.now) value).out }
+        (put_by (table_site table.now) cells.old.items (place_back table.now.0 target.now) value).out }
 {
     match locate(alloc, table, cells, target)? {
-        None => Err(out_of_bounds(alloc, table, target.slot)?),
+        None => Err(bounds_stop(alloc, table, target.slot)?),
         Some(place) => {
-            set(cells, place, value.converted(table.kind(target.slot)));
+            set(cells, place, value.as_kind(table.kind(target.slot)));
             Ok(())
         }
     }
 }
 
 /// Adds to a place, which has to be set.
-fn grow(
+fn increment_place(
     alloc: Global,
     table: &SlotTable,
     cells: &mut Vec<Option<Value>>,
     target: &ResolvedPlace,
     more: Dual,
 ) -> Result<(), EvalStop>
-    requires { is_spot_within (length table.now.0) target.now ≡ true }
+    requires { is_place_within (length table.now.0) target.now ≡ true }
     ensures { Sets result cells.new.items
-        (grow_by (table_site table.now) cells.old.items (spot_back table.now.0 target.now) more).out }
+        (increment_by (table_site table.now) cells.old.items (place_back table.now.0 target.now) more).out }
 {
     match locate(alloc, table, cells, target)? {
-        None => Err(out_of_bounds(alloc, table, target.slot)?),
+        None => Err(bounds_stop(alloc, table, target.slot)?),
         Some(place) => match cell(cells, place) {
-            None => Err(unset(alloc, table, target.slot)?),
+            None => Err(unset_stop(alloc, table, target.slot)?),
             Some(value) => {
                 set(cells, place, Value::Ring(value.as_dual().add(more)));
                 Ok(())
@@ -90,8 +90,8 @@ fn grow(
     }
 }
 
-fn added(op: BinOp, sum: Dual, term: Dual) -> Dual
-    ensures { result ≡ summed op sum term }
+fn sum_with(op: BinOp, sum: Dual, term: Dual) -> Dual
+    ensures { result ≡ sum_with_lem op sum term }
 {
     match op {
         BinOp::Sub => sum.sub(term),
@@ -107,13 +107,13 @@ fn sum_of_chain(
     value: &ResolvedExpr,
 ) -> Result<Dual, EvalStop>
     requires { is_within (length table.now.0) value.now ≡ true }
-    ensures { Answers result (chain_sum (code_back table.now.0 value.now) (table_site table.now) cells.now).out }
+    ensures { Answers result (chain_sum (expression_back table.now.0 value.now) (table_site table.now) cells.now).out }
 {
     match value {
         ResolvedExpr::Bin { op, left, right } => {
             let sum = sum_of_chain(alloc, table, cells, left.get())?;
             let term = evaluate(alloc, table, cells, right.get())?;
-            Ok(added(*op, sum, term.as_dual()))
+            Ok(sum_with(*op, sum, term.as_dual()))
         }
         _ => Ok(Dual::constant(Ring::of_word(0))),
     }
@@ -127,7 +127,7 @@ fn front(
     value: &ResolvedExpr,
 ) -> Result<Value, EvalStop>
     requires { is_within (length table.now.0) value.now ≡ true }
-    ensures { Answers result (value_of (front_lem (code_back table.now.0 value.now)) (table_site table.now) cells.now).out }
+    ensures { Answers result (value_of (front_lem (expression_back table.now.0 value.now)) (table_site table.now) cells.now).out }
 {
     match value {
         ResolvedExpr::Bin { left, .. } => evaluate(alloc, table, cells, left.get()),
@@ -143,10 +143,10 @@ fn assign(
     value: &ResolvedExpr,
     form: Option<IncrementForm>,
 ) -> Result<(), EvalStop>
-    requires target { is_spot_within (length table.now.0) target.now ≡ true }
+    requires target { is_place_within (length table.now.0) target.now ≡ true }
     requires value { is_within (length table.now.0) value.now ≡ true }
     ensures { Sets result cells.new.items
-        (by_form form (table_site table.now) cells.old.items (spot_back table.now.0 target.now) (code_back table.now.0 value.now)).out }
+        (by_form form (table_site table.now) cells.old.items (place_back table.now.0 target.now) (expression_back table.now.0 value.now)).out }
 {
     match form {
         None => {
@@ -155,11 +155,11 @@ fn assign(
         }
         Some(IncrementForm::Chain) => {
             let more = sum_of_chain(alloc, table, cells, value)?;
-            grow(alloc, table, cells, target, more)
+            increment_place(alloc, table, cells, target, more)
         }
         Some(IncrementForm::Sum) => {
             let more = front(alloc, table, cells, value)?;
-            grow(alloc, table, cells, target, more.as_dual())
+            increment_place(alloc, table, cells, target, more.as_dual())
         }
     }
 }
@@ -229,19 +229,23 @@ fn turns_of(
     requires first { is_within (length table.now.0) first.now ≡ true }
     requires last { is_within (length table.now.0) last.now ≡ true }
     requires step { is_option_within (length table.now.0) step.now ≡ true }
-    ensures value { Answers result (turns_of_lem (code_back table.now.0 first.now) (code_back table.now.0 last.now)
+    ensures value { Answers result (turns_of_lem (expression_back table.now.0 first.now) (expression_back table.now.0 last.now)
         (option_back table.now.0 step.now) (table_site table.now) cells.now).out }
     ensures counted { IfOk result IsCounted }
 {
     let first = evaluate(alloc, table, cells, first)?;
     let last = evaluate(alloc, table, cells, last)?;
     let step = step_of(alloc, table, cells, step)?;
-    Ok(turns_between(first.whole(), last.whole(), step.whole())?)
+    Ok(turns_between(
+        first.whole_number(),
+        last.whole_number(),
+        step.whole_number(),
+    )?)
 }
 
 /// A stop in a statement at a line.
-fn stopped(line: u32, stop: EvalStop) -> RunStop
-    ensures { result ≡ stopped_lem line stop }
+fn stop_at(line: u32, stop: EvalStop) -> RunStop
+    ensures { result ≡ stop_at_lem line stop }
 {
     match stop {
         EvalStop::Trap(cause) => RunStop::Trap(TrapAt { line, cause }),
@@ -256,12 +260,12 @@ fn test_at(
     line: u32,
     test: &ResolvedCond,
 ) -> Result<bool, RunStop>
-    requires { is_test_within (length table.now.0) test.now ≡ true }
-    ensures { AnswersAt result (at_line line (holds_lem (test_back table.now.0 test.now) (table_site table.now) cells.now)).out }
+    requires { is_condition_within (length table.now.0) test.now ≡ true }
+    ensures { AnswersAt result (at_line line (holds_lem (condition_back table.now.0 test.now) (table_site table.now) cells.now)).out }
 {
     match holds(alloc, table, cells, test) {
         Ok(holds) => Ok(holds),
-        Err(stop) => Err(stopped(line, stop)),
+        Err(stop) => Err(stop_at(line, stop)),
     }
 }
 
@@ -277,13 +281,13 @@ fn turns_at(
     requires first { is_within (length table.now.0) first.now ≡ true }
     requires last { is_within (length table.now.0) last.now ≡ true }
     requires step { is_option_within (length table.now.0) step.now ≡ true }
-    ensures value { AnswersAt result (at_line line (turns_of_lem (code_back table.now.0 first.now) (code_back table.now.0 last.now)
+    ensures value { AnswersAt result (at_line line (turns_of_lem (expression_back table.now.0 first.now) (expression_back table.now.0 last.now)
         (option_back table.now.0 step.now) (table_site table.now) cells.now)).out }
     ensures counted { IfOk result IsCounted }
 {
     match turns_of(alloc, table, cells, first, last, step) {
         Ok(turns) => Ok(turns),
-        Err(stop) => Err(stopped(line, stop)),
+        Err(stop) => Err(stop_at(line, stop)),
     }
 }
 
@@ -296,18 +300,18 @@ fn assign_at(
     value: &ResolvedExpr,
     form: Option<IncrementForm>,
 ) -> Result<(), RunStop>
-    requires target { is_spot_within (length table.now.0) target.now ≡ true }
+    requires target { is_place_within (length table.now.0) target.now ≡ true }
     requires value { is_within (length table.now.0) value.now ≡ true }
     ensures { Ran result cells.new.items (at_line line (by_form form (table_site table.now) cells.old.items
-        (spot_back table.now.0 target.now) (code_back table.now.0 value.now))).out }
+        (place_back table.now.0 target.now) (expression_back table.now.0 value.now))).out }
 {
     match assign(alloc, table, cells, target, value, form) {
         Ok(()) => Ok(()),
-        Err(stop) => Err(stopped(line, stop)),
+        Err(stop) => Err(stop_at(line, stop)),
     }
 }
 
-fn times(turn: i128, step: i128) -> i128
+fn product(turn: i128, step: i128) -> i128
     requires turn_low { pos 0 ≤ℤ turn }
     requires turn_high { turn ≤ℤ pos (2 ^ 64) }
     requires step_low { neg_ℤ (pos (2 ^ 31)) ≤ℤ step }
@@ -320,7 +324,7 @@ fn times(turn: i128, step: i128) -> i128
 }
 
 #[tactic(auto, using(crate::proofs::Counts::from_range))]
-fn narrowed(value: i128) -> i32
+fn narrow(value: i128) -> i32
     requires { IsIndex value }
     ensures { result ≡ value }
 {
@@ -332,7 +336,7 @@ fn value_in(first: i32, step: i32, turn: u64) -> i32
     requires { IsIndex (first +ℤ (pos turn *ℤ step)) }
     ensures { result ≡ first +ℤ (pos turn *ℤ step) }
 {
-    narrowed(i128::from(first) + times(i128::from(turn), i128::from(step)))
+    narrow(i128::from(first) + product(i128::from(turn), i128::from(step)))
 }
 
 /// Sets a loop's variable for a turn, where it has a place.
@@ -352,17 +356,17 @@ fn begin_turn(cells: &mut Vec<Option<Value>>, place: Option<u32>, first: i32, st
 /// Runs a statement.
 #[cycle(run)]
 #[tactic(auto, using(crate::proofs::Turning::runs))]
-fn run_step(
+fn run_statement(
     alloc: Global,
     table: &SlotTable,
     cells: &mut Vec<Option<Value>>,
-    step: &ResolvedStmt,
+    stmt: &ResolvedStmt,
 ) -> Result<(), RunStop>
-    requires fit { is_fit table.now step.now ≡ true }
-    requires sequential { is_sequential (step_back table.now.0 step.now) ≡ true }
-    ensures { Ran result cells.new.items (run_lem (step_back table.now.0 step.now) (table_site table.now) cells.old.items).out }
+    requires fit { is_fit table.now stmt.now ≡ true }
+    requires sequential { is_sequential (statement_back table.now.0 stmt.now) ≡ true }
+    ensures { Ran result cells.new.items (run_lem (statement_back table.now.0 stmt.now) (table_site table.now) cells.old.items).out }
 {
-    match step {
+    match stmt {
         ResolvedStmt::Assign {
             line,
             target,
@@ -373,10 +377,10 @@ fn run_step(
         ResolvedStmt::If { line, arms, other } => {
             for arm in arms.as_slice() {
                 if test_at(alloc, table, cells, *line, &arm.test)? {
-                    return run_steps(alloc, table, cells, arm.body.as_slice());
+                    return run_statements(alloc, table, cells, arm.body.as_slice());
                 }
             }
-            run_steps(alloc, table, cells, other.as_slice())
+            run_statements(alloc, table, cells, other.as_slice())
         }
         ResolvedStmt::Do {
             line,
@@ -407,14 +411,14 @@ fn run_turns(
     requires variable { variable < length table.now.0 }
     requires counted { IsCounted turns }
     requires fit { are_fit table.now body.now ≡ true }
-    requires sequential { are_sequential (steps_back table.now.0 body.now) ≡ true }
+    requires sequential { are_sequential (statements_back table.now.0 body.now) ≡ true }
     ensures { Ran result cells.new.items (turns_lem turns.count (one_turn (table_site table.now) (slot_name table.now.0 variable)
-        turns (run_all (steps_back table.now.0 body.now))) cells.old.items).out }
+        turns (run_all (statements_back table.now.0 body.now))) cells.old.items).out }
 {
     let place = table.layout().place_in(variable, &[]);
     for turn in 0..turns.count {
         begin_turn(cells, place, turns.first, turns.step, turn);
-        run_steps(alloc, table, cells, body)?;
+        run_statements(alloc, table, cells, body)?;
     }
     Ok(())
 }
@@ -422,18 +426,18 @@ fn run_turns(
 /// Runs statements in order, which have no parallel loop.
 #[cycle(run)]
 #[tactic(auto, using(crate::proofs::Turning::runs))]
-pub fn run_steps(
+pub fn run_statements(
     alloc: Global,
     table: &SlotTable,
     cells: &mut Vec<Option<Value>>,
-    steps: &[ResolvedStmt],
+    stmts: &[ResolvedStmt],
 ) -> Result<(), RunStop>
-    requires fit { are_fit table.now steps.now ≡ true }
-    requires sequential { are_sequential (steps_back table.now.0 steps.now) ≡ true }
-    ensures { Ran result cells.new.items (run_all (steps_back table.now.0 steps.now) (table_site table.now) cells.old.items).out }
+    requires fit { are_fit table.now stmts.now ≡ true }
+    requires sequential { are_sequential (statements_back table.now.0 stmts.now) ≡ true }
+    ensures { Ran result cells.new.items (run_all (statements_back table.now.0 stmts.now) (table_site table.now) cells.old.items).out }
 {
-    for step in steps {
-        run_step(alloc, table, cells, step)?;
+    for stmt in stmts {
+        run_statement(alloc, table, cells, stmt)?;
     }
     Ok(())
 }

@@ -3,7 +3,7 @@ ghost use Rattle.fl_ast.specs.Tree.{stmt_trees};
 ghost use Rattle.dual_meaning.specs.Sequentially.{RunsSequentially};
 ghost use Rattle.dual_meaning.specs.Running.{of_layout, of_resolving, of_stop};
 
-use crate::runner::{RunStop, run_steps};
+use crate::runner::{RunStop, run_statements};
 use fl_ast::{Decl, Stmt};
 use meaning::{TrapAt, Value};
 use resolved::{ResolveError, SlotTable, resolve_statements};
@@ -69,7 +69,7 @@ pub fn run_sequential(
     ensures { RunsSequentially layout.now decls.now (stmt_trees body.now) cells.old.items cells.new.items result }
 {
     let table = SlotTable::of(alloc, layout, decls)?;
-    let steps = resolve_statements(alloc, &table, body)?;
-    run_steps(alloc, &table, cells, steps.as_slice())?;
+    let stmts = resolve_statements(alloc, &table, body)?;
+    run_statements(alloc, &table, cells, stmts.as_slice())?;
     Ok(())
 }

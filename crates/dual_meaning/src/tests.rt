@@ -5,7 +5,7 @@ use fl_ast::{
 use fl_base::{Boxed, Items};
 use fl_types::check;
 use meaning::{Cause, Dual, Value};
-use resolved::{ResolveError, SlotTable, resolve_expression, resolve_test};
+use resolved::{ResolveError, SlotTable, resolve_condition, resolve_expression};
 use ring_core::Ring;
 use std::alloc::Global;
 use std::test::Fail;
@@ -110,8 +110,8 @@ fn five() -> Option<Value> {
 /// What the sample gives where x has this content.
 fn found(alloc: Global, x: Option<Value>) -> Result<Result<Value, EvalStop>, Fail> {
     let table = table(alloc)?;
-    let code = resolve_expression(alloc, table.layout(), &sample(alloc)?)?;
-    Ok(evaluate(alloc, &table, &[x, None], &code))
+    let expr = resolve_expression(alloc, table.layout(), &sample(alloc)?)?;
+    Ok(evaluate(alloc, &table, &[x, None], &expr))
 }
 
 fn is_small(alloc: Global) -> Result<bool, Fail> {
@@ -121,7 +121,7 @@ fn is_small(alloc: Global) -> Result<bool, Fail> {
         left: get(alloc, b"x")?,
         right: number(3),
     };
-    let test = resolve_test(alloc, table.layout(), &less)?;
+    let test = resolve_condition(alloc, table.layout(), &less)?;
     Ok(holds(alloc, &table, &[five(), None], &test)?)
 }
 
@@ -139,8 +139,8 @@ fn values(rt: HostRuntime) -> Result<(), Fail> {
 
 #[test]
 fn traps(rt: HostRuntime) -> Result<(), Fail> {
-    let unset = found(rt.alloc(), None)?;
-    assert!(rt; matches!(&unset, Err(EvalStop::Trap(Cause::Unset { .. }))));
+    let unset_stop = found(rt.alloc(), None)?;
+    assert!(rt; matches!(&unset_stop, Err(EvalStop::Trap(Cause::Unset { .. }))));
     Ok(())
 }
 
@@ -153,8 +153,8 @@ fn conditions(rt: HostRuntime) -> Result<(), Fail> {
 #[test]
 fn unplaced(rt: HostRuntime) -> Result<(), Fail> {
     let table = table(rt.alloc())?;
-    let code = resolve_expression(rt.alloc(), table.layout(), &get(rt.alloc(), b"z")?);
-    assert!(rt; matches!(&code, Err(ResolveError::Unplaced)));
+    let expr = resolve_expression(rt.alloc(), table.layout(), &get(rt.alloc(), b"z")?);
+    assert!(rt; matches!(&expr, Err(ResolveError::Unplaced)));
     Ok(())
 }
 
@@ -175,8 +175,8 @@ fn one(alloc: Global, stmt: Stmt) -> Result<Items<Stmt>, Memory> {
 
 /// `y = y + x*i`
 fn more(alloc: Global) -> Result<Stmt, Memory> {
-    let times = both(alloc, BinOp::Mul, get(alloc, b"x")?, get(alloc, b"i")?)?;
-    let sum = both(alloc, BinOp::Add, get(alloc, b"y")?, times)?;
+    let product = both(alloc, BinOp::Mul, get(alloc, b"x")?, get(alloc, b"i")?)?;
+    let sum = both(alloc, BinOp::Add, get(alloc, b"y")?, product)?;
     assign(alloc, 6, sum)
 }
 

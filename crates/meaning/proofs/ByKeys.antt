@@ -7,24 +7,24 @@ use Rattle.fl_types.specs.declared.access.AccessKind.{AccessKind}
 use Rattle.fl_types.specs.declared.access.AccessKind.TheVariants.{Read}
 use Rattle.meaning.specs.declared.value.Value.{Value}
 use Rattle.meaning.specs.declared.value.Cause.{Cause}
-use Rattle.meaning.specs.Values.{wholes, call_result, relates}
-use Rattle.meaning.specs.Logs.{Log, touched, Traced, pure, after, joined, ◌>>=◌}
+use Rattle.meaning.specs.Values.{whole_numbers, call_result, relates}
+use Rattle.meaning.specs.Logs.{Log, touched, Traced, pure, after, continuation, ◌>>=◌}
 use Rattle.meaning.specs.Sites.{Cells, Site, Key, place_of}
-use Rattle.meaning.specs.Expressions.{touching, content, read_cell, read_place, read, value_of, values_of, holds}
+use Rattle.meaning.specs.Expressions.{after_touch, content, read_cell, read_place, read, value_of, values_of, holds}
 use Rattle.meaning.specs.Laws.{ValuesGoByKeys}
 
 -- the same value or the same stop
 abbrev pub Agree : {X A : Type 0} → Traced X A → Traced X A → Type 0
 Agree t u = t.out ≡ u.out
 
-pub joined_agree : {X A B : Type 0} (l m : Log) (r : Result A X) (f g : A → Traced X B) → ((a : A) → Agree (f a) (g a)) → Agree (joined l r f) (joined m r g)
+pub joined_agree : {X A B : Type 0} (l m : Log) (r : Result A X) (f g : A → Traced X B) → ((a : A) → Agree (f a) (g a)) → Agree (continuation l r f) (continuation m r g)
 joined_agree l m (Ok a) f g h = h a
 joined_agree l m (Err x) f g h = refl
 
 pub then_agree : {X A B : Type 0} (t u : Traced X A) (f g : A → Traced X B) → Agree t u → ((a : A) → Agree (f a) (g a)) → Agree (t >>= f) (u >>= g)
-then_agree {X} {A} t u f g e h = let P : Result A X → Type 0 = λ r. (t >>= f).out ≡ (joined u.log r g).out in subst P e (joined_agree t.log u.log t.out f g h)
+then_agree {X} {A} t u f g e h = let P : Result A X → Type 0 = λ r. (t >>= f).out ≡ (continuation u.log r g).out in subst P e (joined_agree t.log u.log t.out f g h)
 
-pub touching_out : {A : Type 0} (s : Site) (x : List ℕ) (p : ℕ) (k : AccessKind) (t : Traced Cause A) → (touching s x p k t).out ≡ t.out
+pub touching_out : {A : Type 0} (s : Site) (x : List ℕ) (p : ℕ) (k : AccessKind) (t : Traced Cause A) → (after_touch s x p k t).out ≡ t.out
 touching_out s x p k t = by_test (s.accessed x)
   where
     by_test : (b : Bool) → (if b then after (touched p k) t else t).out ≡ t.out
@@ -41,8 +41,8 @@ place_agree s t c x (Some p) = cell_agree s t x p (content c p)
 
 read_agree : (s t : Site) (c : Cells) → s.keys ≡ t.keys → (x : List ℕ) (vs : List Value) → Agree (read s c x vs) (read t c x vs)
 read_agree s t c e x vs =
-    let P : List Key → Type 0 = λ ks. (read s c x vs).out ≡ (read_place t c x (first_at (same_key (x, wholes vs)) ks)).out in
-    subst P e (place_agree s t c x (place_of s x (wholes vs)))
+    let P : List Key → Type 0 = λ ks. (read s c x vs).out ≡ (read_place t c x (first_at (same_key (x, whole_numbers vs)) ks)).out in
+    subst P e (place_agree s t c x (place_of s x (whole_numbers vs)))
 
 mutual
   pub value_agree : (s t : Site) (c : Cells) → s.keys ≡ t.keys → s.width ≡ t.width → (a : Expression) → Agree (value_of a s c) (value_of a t c)

@@ -5,7 +5,7 @@ use Rattle.fl_ast.specs.declared.kind.RelOp.TheVariants.{Eq}
 use Rattle.fl_ast.specs.declared.kind.Fun.TheVariants.{Abs, Max, Min}
 use Rattle.fl_ast.specs.declared.kind.Fun.{Fun}
 use Rattle.fl_ast.specs.Tree.{call, expression, no_expressions, relation, Statements, statement, no_statements, branch, no_arms, arm}
-use Rattle.ring_core.specs.Index.{fitted}
+use Rattle.ring_core.specs.Index.{exact_index}
 use Rattle.ring_core.specs.declared.ring.Width.TheVariants.{W8}
 use Rattle.meaning.specs.Sites.{Cells, Site, opening_site}
 use Rattle.meaning.specs.Statements.{run_all}
@@ -37,24 +37,24 @@ cells = word 200 ∷ word 44 ∷ []
 
 -- of -56 and 88 the greater; 300 is 44
 pub greater : reduced_out W8 (run_all (body Max 2) (site 1) cells).out ≡ Ok (word 32 ∷ word 44 ∷ [])
-unfolding fitted
+unfolding exact_index
 greater = refl
 
 -- 132 is -124
 pub wrapped : reduced_out W8 (run_all (body Max 3) (site 1) cells).out ≡ Ok (word 160 ∷ word 44 ∷ [])
-unfolding fitted
+unfolding exact_index
 wrapped = refl
 
 pub less : reduced_out W8 (run_all (body Min 2) (site 1) cells).out ≡ Ok (word 160 ∷ word 44 ∷ [])
-unfolding fitted
+unfolding exact_index
 less = refl
 
 -- the adjoints modulo 2^8
 pub less_adjoint : map (λ n. n % 256) (map (adjoint_at (run_all (body Min 2) (site 1)) cells (1 ∷ 0 ∷ [])) (0 ∷ 1 ∷ [])) ≡ 212 ∷ 56 ∷ []
-unfolding fitted
+unfolding exact_index
 less_adjoint = refl
 
 -- with eight bytes 300 isn't 44
 pub eight : (run_all (body Max 2) (site 8) (word 18446744073709551560 ∷ word 44 ∷ [])).out ≡ Ok (word 88 ∷ word 44 ∷ [])
-unfolding fitted
+unfolding exact_index
 eight = refl

@@ -4,7 +4,7 @@ use Rattle.fl_ast.specs.declared.kind.Kind.TheVariants as kind
 use Rattle.fl_ast.specs.declared.decl.Decl.{Decl}
 use Rattle.fl_ast.specs.declared.directive.Directive.{Directive}
 use Rattle.fl_ast.specs.Tree.{Expression, no_expressions, expression, Designator, loop, Statements}
-use Rattle.ring_core.specs.Index.{fitted}
+use Rattle.ring_core.specs.Index.{exact_index}
 use Rattle.fl_types.specs.declared.access.AccessKind.{AccessKind}
 use Rattle.fl_types.specs.declared.access.AccessKind.TheVariants.{Read, Write}
 use Rattle.fl_types.specs.declared.access.PathStep.{PathStep}
@@ -66,13 +66,13 @@ cells =
 pub lin_value : (run_all lin site cells).out
     ≡ Ok (number 2 ∷ word 1 ∷ word 2 ∷ word 3 ∷ word 4 ∷ word 5 ∷ word 6 ∷ word 7 ∷ word 8
     ∷ word 1 ∷ word 5 ∷ word 2 ∷ word 6 ∷ word 3 ∷ word 7 ∷ word 4 ∷ word 8 ∷ number 2 ∷ number 4 ∷ [])
-unfolding fitted
+unfolding exact_index
 lin_value = refl
 
 pub lin_adjoint :
     map (adjoint_at (run_all lin site) cells (0 ∷ 0 ∷ 0 ∷ 0 ∷ 0 ∷ 0 ∷ 0 ∷ 0 ∷ 0 ∷ 1 ∷ 2 ∷ 3 ∷ 4 ∷ 5 ∷ 6 ∷ 7 ∷ 8 ∷ [])) (1 ∷ 2 ∷ 3 ∷ 4 ∷ 5 ∷ 6 ∷ 7 ∷ 8 ∷ [])
     ≡ 1 ∷ 3 ∷ 5 ∷ 7 ∷ 2 ∷ 4 ∷ 6 ∷ 8 ∷ []
-unfolding fitted
+unfolding exact_index
 lin_adjoint = refl
 
 -- one statement instance for the loop and one for each pair, and six words
@@ -82,7 +82,7 @@ pair_told k p q es = begins ∷ begins ∷ touches (record { place = p; iteratio
 pub lin_events : events (run_all lin site cells).log
     ≡ begins ∷ pair_told 0 1 9 (pair_told 1 2 11 (pair_told 2 3 13 (pair_told 3 4 15 (pair_told 4 5 10 (pair_told 5 6 12 (pair_told 6 7 14 (pair_told 7 8 16
     (ends 5 ∷ pushes 1 ∷ pushes 2 ∷ pushes 1 ∷ pushes 1 ∷ pushes 4 ∷ pushes 1 ∷ []))))))))
-unfolding fitted
+unfolding exact_index
 lin_events = refl
 
 abbrev stop : Statements → Stop
@@ -90,12 +90,12 @@ stop body = first_stop by_conflict the_limits (events (run_all body site cells).
 
 -- with y(i,1) the first two pairs write one place
 pub lin_conflict : stop (parallel two i (one 1) (name n) (inner None (element (one 1)))) ≡ conflicted 5 (record { place = 9; first = 0; second = 1 })
-unfolding fitted
+unfolding exact_index
 lin_conflict = refl
 
 -- the inner bounds are evaluated where the outer loop has no turn, at the inner loop's line
 pub lin_trap : stop (parallel two i (one 2) (one 1) (inner (Some (one 0)) (element (name j)))) ≡ trapped (record { line = 6; cause = ZeroDivisor })
-unfolding fitted
+unfolding exact_index
 lin_trap = refl
 
 abbrev accesses_of : Option ParallelLoop → List (List ℕ × AccessKind × List PathStep)

@@ -10,7 +10,7 @@ use Rattle.meaning.specs.declared.value.Value.TheVariants.{Index}
 use Rattle.meaning.specs.Logs.{condition, after, inside, at_line, rounds}
 use Rattle.meaning.specs.Sites.{Cells, Site, in_turn, in_iteration, place_of}
 use Rattle.meaning.specs.Expressions.{holds}
-use Rattle.meaning.specs.Statements.{Run, noted, assigned, turns_of, value_at, set_at, setting, turns, loop_words, private_names, unset_all, unset_log, one_turn, Heads, iterations, setting_all, further_turns, heads_of, one_iteration, in_arm, run, run_all, run_inner, run_within, run_arms}
+use Rattle.meaning.specs.Statements.{Run, with_log, assignment_by, turns_of, value_at, set_at, with_variable, turns, loop_words, private_names, with_all_unset, unset_log, one_turn, Heads, iterations, with_variables, further_turns, heads_of, one_iteration, in_arm, run, run_all, run_inner, run_within, run_arms}
 use Rattle.meaning.specs.Laws.{RunsGoByKeys}
 use Rattle.meaning.proofs.ByKeys.{Agree, then_agree, holds_agree}
 use Rattle.meaning.proofs.RunsByKeys.{Alike, turned_alike, same_place, assigned_agree, line_agree, turns_of_agree, turns_agree, one_turn_agree, chosen_agree, in_arm_agree}
@@ -28,15 +28,15 @@ iterated s t directive var tree h = record { alike = record { keys = h.alike.key
 abbrev Alike_runs : Run → Run → Type 0
 Alike_runs f g = (c : Cells) → Agree (f c) (g c)
 
-setting_agree : (s t : Site) (x : List ℕ) (z : ℤ) (f g : Run) → Same s t → Alike_runs f g → Alike_runs (setting s x z f) (setting t x z g)
+setting_agree : (s t : Site) (x : List ℕ) (z : ℤ) (f g : Run) → Same s t → Alike_runs f g → Alike_runs (with_variable s x z f) (with_variable t x z g)
 setting_agree s t x z f g h k c =
     ap (λ o. (f (set_at o (Some (Index z)) c)).out) (same_place s t x [] h.alike) ∙ k (set_at (place_of t x []) (Some (Index z)) c)
 
-setting_all_agree : (s t : Site) (hs : Heads) (i : ℕ) (f g : Run) → Same s t → Alike_runs f g → Alike_runs (setting_all s hs i f) (setting_all t hs i g)
+setting_all_agree : (s t : Site) (hs : Heads) (i : ℕ) (f g : Run) → Same s t → Alike_runs f g → Alike_runs (with_variables s hs i f) (with_variables t hs i g)
 setting_all_agree s t [] i f g h k c = k c
 setting_all_agree s t (x ∷ []) i f g h k c = setting_agree s t x.0 (value_at x.1 i) f g h k c
 setting_all_agree s t (x ∷ y ∷ hs) i f g h k c =
-    setting_agree s t x.0 (value_at x.1 (i / iterations (y ∷ hs))) (setting_all s (y ∷ hs) (i % iterations (y ∷ hs)) f) (setting_all t (y ∷ hs) (i % iterations (y ∷ hs)) g) h
+    setting_agree s t x.0 (value_at x.1 (i / iterations (y ∷ hs))) (with_variables s (y ∷ hs) (i % iterations (y ∷ hs)) f) (with_variables t (y ∷ hs) (i % iterations (y ∷ hs)) g) h
     (setting_all_agree s t (y ∷ hs) (i % iterations (y ∷ hs)) f g h k) c
 
 further_agree : (s t : Site) (c : Cells) (o : Option Head) → Same s t → Agree (further_turns o s c) (further_turns o t c)
@@ -51,9 +51,9 @@ heads_agree s t c x o h =
     (line_agree x.line (turns_of x.first x.last x.step s c) (turns_of x.first x.last x.step t c) (turns_of_agree s t c x.first x.last x.step h.alike))
     (λ u. then_agree (further_turns o s c) (further_turns o t c) _ _ (further_agree s t c o h) (λ hs. refl))
 
-unset_agree : (s t : Site) (xs : List (List ℕ)) (c : Cells) → Same s t → unset_all s xs c ≡ unset_all t xs c
+unset_agree : (s t : Site) (xs : List (List ℕ)) (c : Cells) → Same s t → with_all_unset s xs c ≡ with_all_unset t xs c
 unset_agree s t [] c h = refl
-unset_agree s t (x ∷ xs) c h = ap (λ o. unset_all s xs (set_at o None c)) (same_place s t x [] h.alike) ∙ unset_agree s t xs (set_at (place_of t x []) None c) h
+unset_agree s t (x ∷ xs) c h = ap (λ o. with_all_unset s xs (set_at o None c)) (same_place s t x [] h.alike) ∙ unset_agree s t xs (set_at (place_of t x []) None c) h
 
 names_agree : (s t : Site) (directive : Directive) (var : List ℕ) (tree : Statements) → Same s t → private_names s directive var tree ≡ private_names t directive var tree
 names_agree s t directive var tree h = ap (λ (xs : List (List ℕ)). filter (λ x. is_private (sharing_in var directive tree x)) xs) h.declared
@@ -63,12 +63,12 @@ one_iteration_agree : (s t : Site) (directive : Directive) (var : List ℕ) (hs 
 one_iteration_agree s t directive var hs tree f g k h i c =
     let ms : List (List ℕ) = private_names s directive var tree in
     let ns : List (List ℕ) = private_names t directive var tree in
-    let p : Run = setting_all s hs i (f (in_iteration s directive var tree)) in
-    let q : Run = setting_all t hs i (g (in_iteration t directive var tree)) in
-    then_agree (after (unset_log s ms) (p (unset_all s ms c))) (after (unset_log t ns) (q (unset_all t ns c))) _ _
-    (ap (λ b. (p b).out) (ap (λ xs. unset_all s xs c) (names_agree s t directive var tree h) ∙ unset_agree s t ns c h)
+    let p : Run = with_variables s hs i (f (in_iteration s directive var tree)) in
+    let q : Run = with_variables t hs i (g (in_iteration t directive var tree)) in
+    then_agree (after (unset_log s ms) (p (with_all_unset s ms c))) (after (unset_log t ns) (q (with_all_unset t ns c))) _ _
+    (ap (λ b. (p b).out) (ap (λ xs. with_all_unset s xs c) (names_agree s t directive var tree h) ∙ unset_agree s t ns c h)
     ∙ setting_all_agree s t hs i (f (in_iteration s directive var tree)) (g (in_iteration t directive var tree)) h
-    (k (in_iteration s directive var tree) (in_iteration t directive var tree) (iterated s t directive var tree h)) (unset_all t ns c))
+    (k (in_iteration s directive var tree) (in_iteration t directive var tree) (iterated s t directive var tree h)) (with_all_unset t ns c))
     (λ b. refl)
 
 either_agree : (b : Bool) (f g : Site → Run) → ((u v : Site) → Same u v → Alike_runs (f u) (f v)) → ((u v : Site) → Same u v → Alike_runs (g u) (g v))
@@ -79,13 +79,13 @@ either_agree false f g h k u v e = k u v e
 mutual
   run_same : (b : Statement) (s t : Site) → Same s t → Alike_runs (run b s) (run b t)
   run_same (assignment line atomic p e) s t h c =
-      line_agree line (assigned s c atomic p e (increment_terms s.ring p e)) (assigned t c atomic p e (increment_terms t.ring p e))
-      (ap (λ b. (assigned s c atomic p e (if b then rest_terms p e else None)).out) (h.alike.ring p.name) ∙ assigned_agree s t c atomic p e (increment_terms t.ring p e) h.alike)
+      line_agree line (assignment_by s c atomic p e (increment_terms s.ring p e)) (assignment_by t c atomic p e (increment_terms t.ring p e))
+      (ap (λ b. (assignment_by s c atomic p e (if b then rest_terms p e else None)).out) (h.alike.ring p.name) ∙ assigned_agree s t c atomic p e (increment_terms t.ring p e) h.alike)
   run_same (branch line arms other) s t h c = arms_same arms line 0 (run_all other) (λ u v e. run_all_same other u v e) s t h c
   run_same (loop line number None var first last step body) s t h c =
       then_agree (at_line line (turns_of first last step s c)) (at_line line (turns_of first last step t c)) _ _
       (line_agree line (turns_of first last step s c) (turns_of first last step t c) (turns_of_agree s t c first last step h.alike))
-      (λ u. then_agree (turns u.count (one_turn s var u (run_all body)) c) (turns u.count (one_turn t var u (run_all body)) c) (noted (loop_words u)) (noted (loop_words u))
+      (λ u. then_agree (turns u.count (one_turn s var u (run_all body)) c) (turns u.count (one_turn t var u (run_all body)) c) (with_log (loop_words u)) (with_log (loop_words u))
       (turns_agree u.count (one_turn s var u (run_all body)) (one_turn t var u (run_all body))
       (one_turn_agree s t var u (run_all body) (run_all body) (run_all_same body (in_turn s var) (in_turn t var) (turned s t var h)) h.alike) c)
       (λ d. refl))

@@ -6,10 +6,10 @@ use Rattle.ring_core.proofs.Modular.{modular, modulo, ring_sub_is}
 use Rattle.meaning.specs.declared.value.Value.{Value}
 use Rattle.meaning.specs.declared.value.Value.TheVariants.{Index, Ring}
 use Rattle.meaning.specs.declared.value.TrapAt.{TrapAt}
-use Rattle.meaning.specs.Sites.{Cells, pointed}
+use Rattle.meaning.specs.Sites.{Cells, with_tangent}
 use Rattle.meaning.specs.Statements.{run_all}
-use Rattle.meaning.specs.Adjoints.{along, tangent_of}
-use Rattle.meaning.specs.Laws.{values_out, TangentsAreUnseen, combined, tangents_out, TangentsAreLinear}
+use Rattle.meaning.specs.Adjoints.{cells_along, tangent_of}
+use Rattle.meaning.specs.Laws.{values_out, TangentsAreUnseen, combination, tangents_out, TangentsAreLinear}
 use Rattle.meaning.proofs.Trios.{Closed, Trio, Outs, Tells, TrioCell, TrioCells}
 use Rattle.meaning.proofs.RunTrios.{run_all_trio}
 
@@ -37,7 +37,7 @@ ring_part None = 0
 ring_part (Some (Index z)) = 0
 ring_part (Some (Ring d)) = d.value
 
-cells_alike : (v w : Option Value) → pointed 0 v ≡ pointed 0 w → TrioCell Any v w w
+cells_alike : (v w : Option Value) → with_tangent 0 v ≡ with_tangent 0 w → TrioCell Any v w w
 cells_alike None None e = tt
 cells_alike (Some (Index x)) (Some (Index y)) e = let q : y ≡ x = cc in (q, q)
 cells_alike (Some (Ring a)) (Some (Ring b)) e =
@@ -50,26 +50,26 @@ cells_alike (Some (Ring a)) None e = cc
 cells_alike (Some (Index x)) (Some (Ring b)) e = cc
 cells_alike (Some (Ring a)) (Some (Index y)) e = cc
 
-all_alike : (c d : Cells) → along [] c ≡ along [] d → TrioCells Any c d d
+all_alike : (c d : Cells) → cells_along [] c ≡ cells_along [] d → TrioCells Any c d d
 all_alike [] [] e = tt
 all_alike [] (w ∷ d) e = cc
 all_alike (v ∷ c) [] e = cc
 all_alike (v ∷ c) (w ∷ d) e =
-    let h : pointed 0 v ≡ pointed 0 w = cc in
-    let t : along [] c ≡ along [] d = cc in
+    let h : with_tangent 0 v ≡ with_tangent 0 w = cc in
+    let t : cells_along [] c ≡ cells_along [] d = cc in
     (cells_alike v w h, all_alike c d t)
 
-values_alike : (v w u : Value) → Trio Any v w u → pointed 0 (Some v) ≡ pointed 0 (Some w)
+values_alike : (v w u : Value) → Trio Any v w u → with_tangent 0 (Some v) ≡ with_tangent 0 (Some w)
 values_alike (Index x) (Index y) (Index z) h = rw h.0 refl
 values_alike (Ring a) (Ring b) (Ring c) h = rw h.second refl
 values_alike _ _ _ h = absurd h
 
-cell_values : (v w u : Option Value) → TrioCell Any v w u → pointed 0 v ≡ pointed 0 w
+cell_values : (v w u : Option Value) → TrioCell Any v w u → with_tangent 0 v ≡ with_tangent 0 w
 cell_values None None None h = refl
 cell_values (Some v) (Some w) (Some u) h = values_alike v w u h
 cell_values _ _ _ h = absurd h
 
-all_values : (c d e : Cells) → TrioCells Any c d e → along [] c ≡ along [] d
+all_values : (c d e : Cells) → TrioCells Any c d e → cells_along [] c ≡ cells_along [] d
 all_values [] [] [] h = refl
 all_values (v ∷ c) (w ∷ d) (u ∷ e) h = rw (cell_values v w u h.0, all_values c d e h.1) refl
 all_values _ _ _ h = absurd h
@@ -114,17 +114,17 @@ mix_closed a b = record {
   of_right = λ v x y z p. rw p (simp modular (modulo (omega arith)));
 }
 
-pointed_trio : (a b t u : ℕ) (v : Option Value) → TrioCell (Mix a b) (pointed (ring_add (ring_mul a t) (ring_mul b u)) v) (pointed t v) (pointed u v)
+pointed_trio : (a b t u : ℕ) (v : Option Value) → TrioCell (Mix a b) (with_tangent (ring_add (ring_mul a t) (ring_mul b u)) v) (with_tangent t v) (with_tangent u v)
 pointed_trio a b t u None = tt
 pointed_trio a b t u (Some (Index z)) = (refl, refl)
 pointed_trio a b t u (Some (Ring d)) = record { second = refl; third = refl; tangents = refl }
 
-unpointed_trio : (a b : ℕ) (v : Option Value) → TrioCell (Mix a b) (pointed 0 v) (pointed 0 v) (pointed 0 v)
+unpointed_trio : (a b : ℕ) (v : Option Value) → TrioCell (Mix a b) (with_tangent 0 v) (with_tangent 0 v) (with_tangent 0 v)
 unpointed_trio a b None = tt
 unpointed_trio a b (Some (Index z)) = (refl, refl)
 unpointed_trio a b (Some (Ring d)) = record { second = refl; third = refl; tangents = mix_zero a b }
 
-along_trio : (a b : ℕ) (ts us : List ℕ) (c : Cells) → TrioCells (Mix a b) (along (combined a ts b us) c) (along ts c) (along us c)
+along_trio : (a b : ℕ) (ts us : List ℕ) (c : Cells) → TrioCells (Mix a b) (cells_along (combination a ts b us) c) (cells_along ts c) (cells_along us c)
 along_trio a b ts us [] = tt
 along_trio a b [] [] (v ∷ c) = (unpointed_trio a b v, along_trio a b [] [] c)
 along_trio a b [] (u ∷ us) (v ∷ c) = (pointed_trio a b 0 u v, along_trio a b [] us c)
@@ -141,15 +141,15 @@ cell_tangents a b None None None h = mix_zero a b
 cell_tangents a b (Some v) (Some w) (Some u) h = value_tangents a b v w u h
 cell_tangents a b _ _ _ h = absurd h
 
-all_tangents : (a b : ℕ) (c d e : Cells) → TrioCells (Mix a b) c d e → map tangent_of c ≡ combined a (map tangent_of d) b (map tangent_of e)
+all_tangents : (a b : ℕ) (c d e : Cells) → TrioCells (Mix a b) c d e → map tangent_of c ≡ combination a (map tangent_of d) b (map tangent_of e)
 all_tangents a b [] [] [] h = refl
 all_tangents a b (v ∷ c) (w ∷ d) (u ∷ e) h =
     let p : tangent_of v ≡ ring_add (ring_mul a (tangent_of w)) (ring_mul b (tangent_of u)) = cell_tangents a b v w u h.0 in
-    let q : map tangent_of c ≡ combined a (map tangent_of d) b (map tangent_of e) = all_tangents a b c d e h.1 in
+    let q : map tangent_of c ≡ combination a (map tangent_of d) b (map tangent_of e) = all_tangents a b c d e h.1 in
     rw (p, q) refl
 all_tangents a b _ _ _ h = absurd h
 
-outs_tangents : (a b : ℕ) (r s t : Result Cells TrapAt) → Outs (TrioCells (Mix a b)) r s t → tangents_out r ≡ combined a (tangents_out s) b (tangents_out t)
+outs_tangents : (a b : ℕ) (r s t : Result Cells TrapAt) → Outs (TrioCells (Mix a b)) r s t → tangents_out r ≡ combination a (tangents_out s) b (tangents_out t)
 outs_tangents a b (Ok c) (Ok d) (Ok e) h = all_tangents a b c d e h
 outs_tangents a b (Err x) (Err y) (Err z) h = refl
 outs_tangents a b _ _ _ h = absurd h

@@ -2,7 +2,7 @@
 use Rattle.std.specs.Prelude.{◌≡◌, ℕ, List, [], ◌∷◌, Some, None, refl, codes, Ok}
 use Rattle.fl_ast.specs.declared.kind.Kind.TheVariants as kind
 use Rattle.fl_ast.specs.Tree.{Statements, statement, Subroutine}
-use Rattle.ring_core.specs.Index.{fitted}
+use Rattle.ring_core.specs.Index.{exact_index}
 use Rattle.meaning.specs.declared.value.Cause.TheVariants.{Range}
 use Rattle.meaning.specs.Logs.{events, begins, pushes}
 use Rattle.meaning.specs.Sites.{Site, opening_site}
@@ -27,16 +27,16 @@ abbrev poly : Statements
 poly = only (set 4 (to y) ((name x times name x) plus (one 3 times name x)))
 
 pub poly_value : (run_all poly two_scalars (word 5 ∷ word 0 ∷ [])).out ≡ Ok (word 5 ∷ word 40 ∷ [])
-unfolding fitted
+unfolding exact_index
 poly_value = refl
 
 pub poly_adjoint : adjoint_at (run_all poly two_scalars) (word 5 ∷ word 0 ∷ []) (0 ∷ 1 ∷ []) 0 ≡ 13
-unfolding fitted
+unfolding exact_index
 poly_adjoint = refl
 
 -- the old value of y is pushed
 pub poly_events : events (run_all poly two_scalars (word 5 ∷ word 7 ∷ [])).log ≡ begins ∷ pushes 7 ∷ []
-unfolding fitted
+unfolding exact_index
 poly_events = refl
 
 -- y = x*x
@@ -67,11 +67,11 @@ over_site =
 pub over_stop :
     first_stop by_conflict the_limits (events (run_all over over_site (number 2147483647 ∷ word 1 ∷ None ∷ [])).log)
     ≡ trapped (record { line = 4; cause = Range })
-unfolding fitted
+unfolding exact_index
 over_stop = refl
 
 pub over_value : (run_all over over_site (number 6 ∷ word 1 ∷ None ∷ [])).out ≡ Ok (number 6 ∷ word 8 ∷ number 7 ∷ [])
-unfolding fitted
+unfolding exact_index
 over_value = refl
 
 -- the same as a whole program
@@ -80,11 +80,11 @@ poly_unit = record { name = codes "poly"; args = x ∷ y ∷ []; decls = declare
 
 pub poly_meaning : (meaning poly_unit (scalar x ∷ scalar y ∷ []) all_pushed (5 ∷ 0 ∷ []) (1 ∷ [])).out
     ≡ Ok (Some (Ring (record { value = 5; tangent = 1 })) ∷ Some (Ring (record { value = 40; tangent = 13 })) ∷ [])
-unfolding fitted
+unfolding exact_index
 poly_meaning = refl
 
 pub poly_answer : adjoint_of poly_unit (scalar x ∷ scalar y ∷ []) (5 ∷ 0 ∷ []) (0 ∷ 1 ∷ []) 0 ≡ 13
-unfolding fitted
+unfolding exact_index
 poly_answer = refl
 
 abbrev over_unit : Subroutine

@@ -3,7 +3,7 @@ use Rattle.std.specs.Prelude.{◌≡◌, ℕ, List, [], ◌∷◌, map, None, re
 use Rattle.fl_ast.specs.declared.kind.Kind.TheVariants as kind
 use Rattle.fl_ast.specs.declared.directive.Directive.{Directive}
 use Rattle.fl_ast.specs.Tree.{Statements, statement}
-use Rattle.ring_core.specs.Index.{fitted}
+use Rattle.ring_core.specs.Index.{exact_index}
 use Rattle.meaning.specs.declared.value.Cause.TheVariants.{Bounds, Unset}
 use Rattle.meaning.specs.Logs.{events}
 use Rattle.meaning.specs.Sites.{Cells, Site, opening_site}
@@ -51,12 +51,12 @@ stencil_cells = number 5 ∷ word 1 ∷ word 2 ∷ word 3 ∷ word 4 ∷ word 5 
 
 pub stencil_value : (run_all stencil (arrays 5 5) stencil_cells).out
     ≡ Ok (number 5 ∷ word 1 ∷ word 2 ∷ word 3 ∷ word 4 ∷ word 5 ∷ word 0 ∷ word 4 ∷ word 6 ∷ word 8 ∷ word 0 ∷ number 4 ∷ [])
-unfolding fitted
+unfolding exact_index
 stencil_value = refl
 
 pub stencil_adjoint : map (adjoint_at (run_all stencil (arrays 5 5)) stencil_cells (0 ∷ 0 ∷ 0 ∷ 0 ∷ 0 ∷ 0 ∷ 0 ∷ 1 ∷ 10 ∷ 100 ∷ 0 ∷ [])) (1 ∷ 2 ∷ 3 ∷ 4 ∷ 5 ∷ [])
     ≡ 1 ∷ 10 ∷ 101 ∷ 10 ∷ 100 ∷ []
-unfolding fitted
+unfolding exact_index
 stencil_adjoint = refl
 
 -- arguments n, c(3), x(3), y(3)
@@ -74,21 +74,21 @@ scatter_cells p q r = number 3 ∷ number p ∷ number q ∷ number r ∷ word 1
 
 pub scatter_value : (run_all scatter indexed (scatter_cells 3 1 2)).out
     ≡ Ok (number 3 ∷ number 3 ∷ number 1 ∷ number 2 ∷ word 1 ∷ word 2 ∷ word 3 ∷ word 1 ∷ word 4 ∷ word 9 ∷ number 3 ∷ [])
-unfolding fitted
+unfolding exact_index
 scatter_value = refl
 
 pub scatter_adjoint : map (adjoint_at (run_all scatter indexed) (scatter_cells 3 1 2) (0 ∷ 0 ∷ 0 ∷ 0 ∷ 0 ∷ 0 ∷ 0 ∷ 1 ∷ 10 ∷ 100 ∷ [])) (4 ∷ 5 ∷ 6 ∷ [])
     ≡ 2 ∷ 40 ∷ 600 ∷ []
-unfolding fitted
+unfolding exact_index
 scatter_adjoint = refl
 
 pub scatter_stop : stop scatter indexed (scatter_cells 3 1 2) ≡ at_end
-unfolding fitted
+unfolding exact_index
 scatter_stop = refl
 
 -- with c 1, 1, 2 both first iterations write y(1)
 pub scatter_conflict : stop scatter indexed (scatter_cells 1 1 2) ≡ conflicted 5 (record { place = 7; first = 0; second = 1 })
-unfolding fitted
+unfolding exact_index
 scatter_conflict = refl
 
 -- arguments n, c(3), x(2), y(3)
@@ -106,11 +106,11 @@ gather_cells = number 3 ∷ number 2 ∷ number 2 ∷ number 1 ∷ word 7 ∷ wo
 
 pub gather_value : (run_all gather gathering gather_cells).out
     ≡ Ok (number 3 ∷ number 2 ∷ number 2 ∷ number 1 ∷ word 7 ∷ word 9 ∷ word 9 ∷ word 9 ∷ word 7 ∷ number 3 ∷ [])
-unfolding fitted
+unfolding exact_index
 gather_value = refl
 
 pub gather_adjoint : map (adjoint_at (run_all gather gathering) gather_cells (0 ∷ 0 ∷ 0 ∷ 0 ∷ 0 ∷ 0 ∷ 1 ∷ 10 ∷ 100 ∷ [])) (4 ∷ 5 ∷ []) ≡ 100 ∷ 11 ∷ []
-unfolding fitted
+unfolding exact_index
 gather_adjoint = refl
 
 -- arguments n, c(2), d(2), x(2), y(2)
@@ -128,16 +128,16 @@ compose_cells p q = number 2 ∷ number p ∷ number q ∷ number 2 ∷ number 1
 
 pub compose_value : (run_all compose composing (compose_cells 2 1)).out
     ≡ Ok (number 2 ∷ number 2 ∷ number 1 ∷ number 2 ∷ number 1 ∷ word 5 ∷ word 6 ∷ word 6 ∷ word 5 ∷ number 2 ∷ [])
-unfolding fitted
+unfolding exact_index
 compose_value = refl
 
 pub compose_adjoint : map (adjoint_at (run_all compose composing) (compose_cells 2 1) (0 ∷ 0 ∷ 0 ∷ 0 ∷ 0 ∷ 0 ∷ 0 ∷ 1 ∷ 10 ∷ [])) (5 ∷ 6 ∷ []) ≡ 10 ∷ 1 ∷ []
-unfolding fitted
+unfolding exact_index
 compose_adjoint = refl
 
 -- with c 1, 1 both iterations write y(2)
 pub compose_conflict : stop compose composing (compose_cells 1 1) ≡ conflicted 5 (record { place = 8; first = 0; second = 1 })
-unfolding fitted
+unfolding exact_index
 compose_conflict = refl
 
 -- do i = 1, n: y(i) = x(i), where y has three elements
@@ -146,11 +146,11 @@ copy = parallel clauses i (one 1) (name n) (only (set 6 (into y (name i)) (at x 
 
 pub copy_trap : stop copy (arrays 4 3) (number 4 ∷ word 1 ∷ word 2 ∷ word 3 ∷ word 4 ∷ word 0 ∷ word 0 ∷ word 0 ∷ None ∷ [])
     ≡ trapped (record { line = 6; cause = Bounds y })
-unfolding fitted
+unfolding exact_index
 copy_trap = refl
 
 pub copy_nothing : (run_all copy (arrays 0 3) (number 0 ∷ word 7 ∷ word 8 ∷ word 9 ∷ None ∷ [])).out ≡ Ok (number 0 ∷ word 7 ∷ word 8 ∷ word 9 ∷ None ∷ [])
-unfolding fitted
+unfolding exact_index
 copy_nothing = refl
 
 abbrev with_private : Directive
@@ -166,5 +166,5 @@ pub unset_trap :
     (scalar n ∷ array x 1 ∷ array y 1 ∷ []) all_pushed)
     (number 1 ∷ word 1 ∷ word 0 ∷ None ∷ None ∷ [])
     ≡ trapped (record { line = 6; cause = Unset t })
-unfolding fitted
+unfolding exact_index
 unset_trap = refl

@@ -5,7 +5,7 @@ use Rattle.fl_ast.specs.declared.kind.RelOp.TheVariants.{Lt}
 use Rattle.fl_ast.specs.declared.kind.Fun.TheVariants.{Abs}
 use Rattle.fl_ast.specs.declared.directive.Directive.{Directive}
 use Rattle.fl_ast.specs.Tree.{power, call, expression, no_expressions, relation, Statements, statement, branch, loop, no_arms, arm}
-use Rattle.ring_core.specs.Index.{fitted}
+use Rattle.ring_core.specs.Index.{exact_index}
 use Rattle.meaning.specs.Logs.{events}
 use Rattle.meaning.specs.Sites.{Cells, Site, opening_site}
 use Rattle.meaning.specs.Statements.{run_all}
@@ -65,20 +65,20 @@ cells = number 3 ∷ number 3 ∷ number 1 ∷ number 2 ∷ word 184467440737095
 -- y is 50, 2, 19
 pub mixed_value : (run_all mixed site cells).out
     ≡ Ok (number 3 ∷ number 3 ∷ number 1 ∷ number 2 ∷ word 18446744073709551614 ∷ word 3 ∷ word 5 ∷ word 50 ∷ word 2 ∷ word 19 ∷ number 3 ∷ number 2 ∷ word 3 ∷ [])
-unfolding fitted
+unfolding exact_index
 mixed_value = refl
 
 -- for the seed 1, 10, 100: -10, 1200 and 20
 pub mixed_adjoint : map (adjoint_at (run_all mixed site) cells (0 ∷ 0 ∷ 0 ∷ 0 ∷ 0 ∷ 0 ∷ 0 ∷ 1 ∷ 10 ∷ 100 ∷ [])) (4 ∷ 5 ∷ 6 ∷ [])
     ≡ 18446744073709551606 ∷ 1200 ∷ 20 ∷ []
-unfolding fitted
+unfolding exact_index
 mixed_adjoint = refl
 
 pub mixed_stop : first_stop by_conflict the_limits (events (run_all mixed site cells).log) ≡ at_end
-unfolding fitted
+unfolding exact_index
 mixed_stop = refl
 
 -- the loop and its iterations, two statements in each, the assignment of one arm and two inner loops of two turns with one statement
 pub mixed_count : statement_count (events (run_all mixed site cells).log) ≡ 21
-unfolding fitted
+unfolding exact_index
 mixed_count = refl

@@ -4,7 +4,7 @@ use Rattle.fl_ast.specs.declared.kind.Kind.TheVariants as kind
 use Rattle.fl_ast.specs.declared.decl.Decl.{Decl}
 use Rattle.fl_ast.specs.declared.directive.Directive.{Directive}
 use Rattle.fl_ast.specs.Tree.{Statements, loop}
-use Rattle.ring_core.specs.Index.{fitted}
+use Rattle.ring_core.specs.Index.{exact_index}
 use Rattle.fl_types.specs.declared.access.AccessKind.{AccessKind}
 use Rattle.fl_types.specs.declared.access.AccessKind.TheVariants.{Read, Write}
 use Rattle.fl_types.specs.declared.sharing.Sharing.TheVariants.{Shared, First, LoopVar}
@@ -66,15 +66,15 @@ abbrev cells : Cells
 cells = number 2 ∷ word 3 ∷ word 5 ∷ None ∷ None ∷ []
 
 pub scaled_value : (run_all (scaled clauses) site cells).out ≡ Ok (number 2 ∷ word 6 ∷ word 10 ∷ number 2 ∷ number 2 ∷ [])
-unfolding fitted
+unfolding exact_index
 scaled_value = refl
 
 pub scaled_adjoint : map (adjoint_at (run_all (scaled listed) site) cells (0 ∷ 1 ∷ 10 ∷ [])) (1 ∷ 2 ∷ []) ≡ 2 ∷ 20 ∷ []
-unfolding fitted
+unfolding exact_index
 scaled_adjoint = refl
 
 pub scaled_stop : first_stop by_conflict the_limits (events (run_all (scaled clauses) site cells).log) ≡ at_end
-unfolding fitted
+unfolding exact_index
 scaled_stop = refl
 
 -- the touched places
@@ -88,5 +88,5 @@ touched (traps s ∷ es) = touched es
 
 pub scaled_touches : touched (events (run_all (scaled clauses) site cells).log)
     ≡ (1, 0, Read) ∷ (1, 0, Write) ∷ (2, 1, Read) ∷ (2, 1, Write) ∷ (1, 0, Read) ∷ (1, 0, Write) ∷ (2, 1, Read) ∷ (2, 1, Write) ∷ []
-unfolding fitted
+unfolding exact_index
 scaled_touches = refl

@@ -11,8 +11,8 @@ use Rattle.fl_ast.specs.declared.kind.BinOp.TheVariants.{Add, Sub, Mul, Div}
 use Rattle.meaning.specs.declared.value.Dual.{Dual}
 use Rattle.meaning.specs.declared.value.Value.{Value}
 use Rattle.meaning.specs.declared.value.Value.TheVariants.{Index, Ring}
-use Rattle.meaning.specs.Values.{Found, dual_add, dual_sub, dual_neg, dual_mul, dual_pow, as_dual, signed_at, rank, ranks, ring_result, binary_result, negated, power_result, larger, smaller, absolute, compares}
-use Rattle.meaning.specs.Widths.{modulus, reduced_dual, reduced, reduced_found, OperationsRespect, WidthsAreRespected}
+use Rattle.meaning.specs.Values.{Found, dual_add, dual_sub, dual_neg, dual_mul, dual_pow, as_dual, signed_at, rank, ranks, ring_result, binary_result, negation_result, power_result, larger_result, smaller_result, absolute_result, compares}
+use Rattle.meaning.specs.Widths.{modulus, reduced_dual, reduced_value, reduced_found, OperationsRespect, WidthsAreRespected}
 
 -- what is asked of a width: its modulus divides 2^64, and numbers are compared by what is left of them
 pub record Narrow (w : Width) : Type 0 where
@@ -91,7 +91,7 @@ SameValue w (Ring a) (Ring b) = SameDual w a b
 SameValue w (Index x) (Ring b) = ⊥
 SameValue w (Ring a) (Index y) = ⊥
 
-pub same_of : (w : Width) (a b : Value) → reduced w a ≡ reduced w b → SameValue w a b
+pub same_of : (w : Width) (a b : Value) → reduced_value w a ≡ reduced_value w b → SameValue w a b
 same_of w (Index x) (Index y) e = let q : x ≡ y = cc in q
 same_of w (Ring a) (Ring b) e = record { value = ap (λ v. (as_dual v).value) e; tangent = ap (λ v. (as_dual v).tangent) e }
 same_of w (Index x) (Ring b) e = absurd (cc)
@@ -103,7 +103,7 @@ as_same w (Ring a) (Ring b) h = h
 as_same w (Index x) (Ring b) h = absurd h
 as_same w (Ring a) (Index y) h = absurd h
 
-pub value_same : (w : Width) (a b : Value) → SameValue w a b → reduced w a ≡ reduced w b
+pub value_same : (w : Width) (a b : Value) → SameValue w a b → reduced_value w a ≡ reduced_value w b
 value_same w (Index x) (Index y) h = ap Index h
 value_same w (Ring a) (Ring b) h = ap Ring (dual_same w a b h)
 value_same w (Index x) (Ring b) h = absurd h
@@ -127,7 +127,7 @@ binary_same w k op (Ring a) (Ring b) (Ring c) (Index t) h g = absurd g
 binary_same w k op (Index x) (Ring b) c d h g = absurd h
 binary_same w k op (Ring a) (Index y) c d h g = absurd h
 
-pub negated_same : (w : Width) → Narrow w → (a b : Value) → SameValue w a b → reduced_found w (negated a) ≡ reduced_found w (negated b)
+pub negated_same : (w : Width) → Narrow w → (a b : Value) → SameValue w a b → reduced_found w (negation_result a) ≡ reduced_found w (negation_result b)
 negated_same w k (Index x) (Index y) h = rw h refl
 negated_same w k (Ring a) (Ring b) h = ap (λ x. Ok (Ring x)) (dual_same w _ _ (neg_duals w k a b h))
 negated_same w k (Index x) (Ring b) h = absurd h
@@ -158,7 +158,7 @@ ranks_same w k (Ring a) (Ring b) (Ring c) (Index t) h g = absurd g
 ranks_same w k (Index x) (Ring b) c d h g = absurd h
 ranks_same w k (Ring a) (Index y) c d h g = absurd h
 
-pick : (w : Width) (t : Bool) (a b c d : Value) → reduced w a ≡ reduced w b → reduced w c ≡ reduced w d → reduced_found w (Ok (if t then a else c)) ≡ reduced_found w (Ok (if t then b else d))
+pick : (w : Width) (t : Bool) (a b c d : Value) → reduced_value w a ≡ reduced_value w b → reduced_value w c ≡ reduced_value w d → reduced_found w (Ok (if t then a else c)) ≡ reduced_found w (Ok (if t then b else d))
 pick w true a b c d h g = ap Ok h
 pick w false a b c d h g = ap Ok g
 
@@ -166,17 +166,17 @@ pick_found : (w : Width) (t : Bool) (a b c d : Found) → reduced_found w a ≡ 
 pick_found w true a b c d h g = h
 pick_found w false a b c d h g = g
 
-pub larger_same : (w : Width) → Narrow w → (a b c d : Value) → reduced w a ≡ reduced w b → reduced w c ≡ reduced w d → reduced_found w (larger w a c) ≡ reduced_found w (larger w b d)
+pub larger_same : (w : Width) → Narrow w → (a b c d : Value) → reduced_value w a ≡ reduced_value w b → reduced_value w c ≡ reduced_value w d → reduced_found w (larger_result w a c) ≡ reduced_found w (larger_result w b d)
 larger_same w k a b c d h g =
     rw (rank_same w k a b (same_of w a b h), rank_same w k c d (same_of w c d g)) (pick w (int_le (rank w d) (rank w b)) a b c d h g)
 
-pub smaller_same : (w : Width) → Narrow w → (a b c d : Value) → reduced w a ≡ reduced w b → reduced w c ≡ reduced w d → reduced_found w (smaller w a c) ≡ reduced_found w (smaller w b d)
+pub smaller_same : (w : Width) → Narrow w → (a b c d : Value) → reduced_value w a ≡ reduced_value w b → reduced_value w c ≡ reduced_value w d → reduced_found w (smaller_result w a c) ≡ reduced_found w (smaller_result w b d)
 smaller_same w k a b c d h g =
     rw (rank_same w k a b (same_of w a b h), rank_same w k c d (same_of w c d g)) (pick w (int_le (rank w b) (rank w d)) a b c d h g)
 
-pub absolute_same : (w : Width) → Narrow w → (a b : Value) → reduced w a ≡ reduced w b → reduced_found w (absolute w a) ≡ reduced_found w (absolute w b)
+pub absolute_same : (w : Width) → Narrow w → (a b : Value) → reduced_value w a ≡ reduced_value w b → reduced_found w (absolute_result w a) ≡ reduced_found w (absolute_result w b)
 absolute_same w k a b h =
-    rw (rank_same w k a b (same_of w a b h)) (pick_found w (int_lt (rank w b) (pos 0)) (negated a) (negated b) (Ok a) (Ok b) (negated_same w k a b (same_of w a b h)) (ap Ok h))
+    rw (rank_same w k a b (same_of w a b h)) (pick_found w (int_lt (rank w b) (pos 0)) (negation_result a) (negation_result b) (Ok a) (Ok b) (negated_same w k a b (same_of w a b h)) (ap Ok h))
 
 respect : (w : Width) → Narrow w → OperationsRespect w
 respect w k = record {

@@ -7,7 +7,7 @@ use Rattle.std.proofs.lemmas.List.Elements.{Contains-append_left, Contains-appen
 use Rattle.fl_types.specs.declared.access.AccessKind.{AccessKind}
 use Rattle.fl_types.specs.declared.access.AccessKind.TheVariants.{Read, Write, Update}
 use Rattle.meaning.specs.Logs.{Touch}
-use Rattle.meaning.specs.Conflicts.{clashes, Clash, IsClash, no_later, Reports, in_order, clash_of, clashes_with, all_clashes, lesser, least, conflict}
+use Rattle.meaning.specs.Conflicts.{clashes, Clash, IsClash, no_later, Reports, in_order, clash_of, clashes_with, all_clashes, lesser_clash, least_clash, conflict}
 
 abbrev Among : {A : Type 0} → List A → A → Type 0
 Among [] x = ⊥
@@ -182,14 +182,14 @@ found_here a b c m = rw (and_from _ _ (eq-eqb a.place b.place (m.first_place ∙
     less : nat_lt a.iteration b.iteration ≡ true
     less = lt-ltb a.iteration b.iteration (rw (m.first_iteration, m.second_iteration) m.rises)
 
-    whole : record { place = a.place; first = a.iteration; second = b.iteration } ≡ c
-    whole = ap (λ (x : ℕ). record { place = x; first = a.iteration; second = b.iteration }) m.first_place
+    whole_number : record { place = a.place; first = a.iteration; second = b.iteration } ≡ c
+    whole_number = ap (λ (x : ℕ). record { place = x; first = a.iteration; second = b.iteration }) m.first_place
         ∙ (ap (λ (x : ℕ). record { place = c.place; first = x; second = b.iteration }) m.first_iteration
         ∙ ap (λ (x : ℕ). record { place = c.place; first = c.first; second = x }) m.second_iteration)
 
     in_turn : (t : Bool) → t ≡ true
         → Among (if t then record { place = a.place; first = a.iteration; second = b.iteration } ∷ [] else if nat_lt b.iteration a.iteration then record { place = a.place; first = b.iteration; second = a.iteration } ∷ [] else []) c
-    in_turn true e = inl whole
+    in_turn true e = inl whole_number
     in_turn false e = cc
 
 found_back : (a b : Touch) (c : Clash) → Makes a b c → Among (clash_of b a) c
@@ -204,14 +204,14 @@ found_back a b c m = rw (and_from _ _ (eq-eqb b.place a.place (m.second_place �
     not_less : nat_lt b.iteration a.iteration ≡ false
     not_less = grind (arith, nat_tests)
 
-    whole : record { place = b.place; first = a.iteration; second = b.iteration } ≡ c
-    whole = ap (λ (x : ℕ). record { place = x; first = a.iteration; second = b.iteration }) m.second_place
+    whole_number : record { place = b.place; first = a.iteration; second = b.iteration } ≡ c
+    whole_number = ap (λ (x : ℕ). record { place = x; first = a.iteration; second = b.iteration }) m.second_place
         ∙ (ap (λ (x : ℕ). record { place = c.place; first = x; second = b.iteration }) m.first_iteration
         ∙ ap (λ (x : ℕ). record { place = c.place; first = c.first; second = x }) m.second_iteration)
 
     in_turn : (t s : Bool) → t ≡ false → s ≡ true
         → Among (if t then record { place = b.place; first = b.iteration; second = a.iteration } ∷ [] else if s then record { place = b.place; first = a.iteration; second = b.iteration } ∷ [] else []) c
-    in_turn false true e f = inl whole
+    in_turn false true e f = inl whole_number
     in_turn true s e f = cc
     in_turn false false e f = cc
 
@@ -247,7 +247,7 @@ IsLeastOf cs (Some m) = Among cs m × ((d : Clash) → Among cs d → no_later m
 itself : (c : Clash) → no_later c c ≡ true
 itself c = later_itself c.place c.first c.second
 
-least_more : (c : Clash) (cs : List Clash) (o : Option Clash) → IsLeastOf cs o → IsLeastOf (c ∷ cs) (lesser c o)
+least_more : (c : Clash) (cs : List Clash) (o : Option Clash) → IsLeastOf cs o → IsLeastOf (c ∷ cs) (lesser_clash c o)
 least_more c cs None h = (inl refl, all)
   where
     all : (d : Clash) → Among (c ∷ cs) d → no_later c d ≡ true
@@ -269,9 +269,9 @@ least_more c cs (Some m) h = by_test (no_later c m) refl
     by_test true e = (inl refl, all e)
     by_test false e = (inr h.0, others e)
 
-least_is : (cs : List Clash) → IsLeastOf cs (least cs)
+least_is : (cs : List Clash) → IsLeastOf cs (least_clash cs)
 least_is [] = λ d h. h
-least_is (c ∷ cs) = least_more c cs (least cs) (least_is cs)
+least_is (c ∷ cs) = least_more c cs (least_clash cs) (least_is cs)
 
 reported_by : (ts : List Touch) (o : Option Clash) → IsLeastOf (all_clashes ts) o → Reports ts o
 reported_by ts None h = λ c g. h c (complete ts c g)

@@ -13,11 +13,11 @@ use Rattle.meaning.specs.declared.value.Value.{Value}
 use Rattle.meaning.specs.declared.value.Value.TheVariants.{Index, Ring}
 use Rattle.meaning.specs.declared.value.Cause.{Cause}
 use Rattle.meaning.specs.declared.value.IterationCount.{IterationCount}
-use Rattle.meaning.specs.Values.{dual_add, dual_sub, as_dual, converted, wholes}
+use Rattle.meaning.specs.Values.{dual_add, dual_sub, as_dual, as_kind, whole_numbers}
 use Rattle.meaning.specs.Logs.{Log, single, pushes, instance, right_side, rounds, turn, iteration, condition, taken, Passage, Traced, after, inside, at_line, at_line_by}
 use Rattle.meaning.specs.Sites.{Cells, Site, in_turn, in_iteration, place_of, kind_of, word_of}
 use Rattle.meaning.specs.Expressions.{content, value_of, values_of}
-use Rattle.meaning.specs.Statements.{Run, noted, set_log, stored, saving, put, plain, terms_of, grown, grow_cell, grow, increment, assigned, turns_by, step_value, turns_of, value_at, set_at, setting, turns, private_names, unset_all, unset_log, content_at, private_words, one_turn, Heads, iterations, setting_all, further_turns, heads_of, one_iteration, run_turns, run_parallel, chosen, in_arm, run, run_all, run_inner, run_within, run_arms}
+use Rattle.meaning.specs.Statements.{Run, with_log, set_log, store_at, after_push, put, plain_assignment, terms_of, incremented_dual, increment_cell, increment_place, increment, assignment_by, turns_by, step_value, turns_of, value_at, set_at, with_variable, turns, private_names, with_all_unset, unset_log, content_at, private_words, one_turn, Heads, iterations, with_variables, further_turns, heads_of, one_iteration, run_turns, run_parallel, choice, in_arm, run, run_all, run_inner, run_within, run_arms}
 use Rattle.meaning.proofs.Trios.{Closed, Duals, Trio, Trios, Outs, Tells, Equals, TrioCell, TrioCells, bind, pured, dual_trio, add_duals, sub_duals, whole_trio, wholes_trio, content_trio, touching_trio, value_trio, values_trio, holds_trio}
 
 -- a run that tells three times the same
@@ -44,7 +44,7 @@ inside_trio Q p t u v h = record { second = rw h.second refl; third = rw h.third
 after_trio : {X A : Type 0} (Q : A → A → A → Type 0) (l : Log) (t u v : Traced X A) → Tells Q t u v → Tells Q (after l t) (after l u) (after l v)
 after_trio Q l t u v h = record { second = rw h.second refl; third = rw h.third refl; out = h.out }
 
-noted_trio : (R : ℕ → ℕ → ℕ → Type 0) (l : Log) → Steady R (noted l)
+noted_trio : (R : ℕ → ℕ → ℕ → Type 0) (l : Log) → Steady R (with_log l)
 noted_trio R l c d e h = record { second = refl; third = refl; out = h }
 
 -- ---- assignments
@@ -64,17 +64,17 @@ cell_word_trio R None None None h = (refl, refl)
 cell_word_trio R (Some v) (Some w) (Some u) h = word_trio R v w u h
 cell_word_trio R _ _ _ h = absurd h
 
-converted_trio : (R : ℕ → ℕ → ℕ → Type 0) → Closed R → (s : Kind) (v w u : Value) → Trio R v w u → Trio R (converted s v) (converted s w) (converted s u)
+converted_trio : (R : ℕ → ℕ → ℕ → Type 0) → Closed R → (s : Kind) (v w u : Value) → Trio R v w u → Trio R (as_kind s v) (as_kind s w) (as_kind s u)
 converted_trio R k kind.Ring v w u h = dual_trio R k v w u h
 converted_trio R k kind.Index v w u h = h
 
-stored_trio : (R : ℕ → ℕ → ℕ → Type 0) (c d e : Cells) (p : ℕ) (v w u : Value) → TrioCells R c d e → Trio R v w u → Tells (TrioCells R) (stored c p v) (stored d p w) (stored e p u)
+stored_trio : (R : ℕ → ℕ → ℕ → Type 0) (c d e : Cells) (p : ℕ) (v w u : Value) → TrioCells R c d e → Trio R v w u → Tells (TrioCells R) (store_at c p v) (store_at d p w) (store_at e p u)
 stored_trio R c d e p v w u h g =
     let q : (set_log p (Some w) ≡ set_log p (Some v)) × (set_log p (Some u) ≡ set_log p (Some v)) = set_log_trio R p v w u g in
     record { second = q.0; third = q.1; out = set_trio R c d e p (Some v) (Some w) (Some u) h g }
 
 saving_trio : (R : ℕ → ℕ → ℕ → Type 0) (site : Site) (x : List ℕ) (v w u : Option Value) (s t r : Traced Cause Cells) → TrioCell R v w u → Tells (TrioCells R) s t r
-    → Tells (TrioCells R) (saving site x v s) (saving site x w t) (saving site x u r)
+    → Tells (TrioCells R) (after_push site x v s) (after_push site x w t) (after_push site x u r)
 saving_trio R site x v w u s t r g h = by_test (site.pushed x)
   where
     q : (word_of w ≡ word_of v) × (word_of u ≡ word_of v)
@@ -92,15 +92,15 @@ put_trio R k site c d e x v w u (Some p) h g =
     (saving_trio R site x (content c p) (content d p) (content e p) _ _ _ (content_trio R c d e p h)
     (stored_trio R c d e p _ _ _ h (converted_trio R k (kind_of site x) v w u g)))
 
-plain_trio : (R : ℕ → ℕ → ℕ → Type 0) → Closed R → (site : Site) (p : Designator) (a : Expression) (c d e : Cells) → TrioCells R c d e → Tells (TrioCells R) (plain site c p a) (plain site d p a) (plain site e p a)
+plain_trio : (R : ℕ → ℕ → ℕ → Type 0) → Closed R → (site : Site) (p : Designator) (a : Expression) (c d e : Cells) → TrioCells R c d e → Tells (TrioCells R) (plain_assignment site c p a) (plain_assignment site d p a) (plain_assignment site e p a)
 plain_trio R k site p a c d e h =
     bind (Trio R) (TrioCells R) (inside (right_side p.name) (value_of a site c)) (inside (right_side p.name) (value_of a site d)) (inside (right_side p.name) (value_of a site e)) _ _ _ (inside_trio (Trio R) (right_side p.name) _ _ _ (value_trio R k a site c d e h))
     (λ v w u g. bind (Trios R) (TrioCells R) (values_of p.subscripts site c) (values_of p.subscripts site d) (values_of p.subscripts site e) _ _ _ (values_trio R k p.subscripts site c d e h)
     (λ vs ws us gs. at_subscripts v w u g vs ws us (wholes_trio R vs ws us gs)))
   where
-    at_subscripts : (v w u : Value) → Trio R v w u → (vs ws us : List Value) → (wholes ws ≡ wholes vs) × (wholes us ≡ wholes vs)
-        → Tells (TrioCells R) (put site c p.name v (place_of site p.name (wholes vs))) (put site d p.name w (place_of site p.name (wholes ws))) (put site e p.name u (place_of site p.name (wholes us)))
-    at_subscripts v w u g vs ws us q = rw (q.0, q.1) (put_trio R k site c d e p.name v w u (place_of site p.name (wholes vs)) h g)
+    at_subscripts : (v w u : Value) → Trio R v w u → (vs ws us : List Value) → (whole_numbers ws ≡ whole_numbers vs) × (whole_numbers us ≡ whole_numbers vs)
+        → Tells (TrioCells R) (put site c p.name v (place_of site p.name (whole_numbers vs))) (put site d p.name w (place_of site p.name (whole_numbers ws))) (put site e p.name u (place_of site p.name (whole_numbers us)))
+    at_subscripts v w u g vs ws us q = rw (q.0, q.1) (put_trio R k site c d e p.name v w u (place_of site p.name (whole_numbers vs)) h g)
 
 abbrev TrioTerms : (ℕ → ℕ → ℕ → Type 0) → List (Bool × Dual) → List (Bool × Dual) → List (Bool × Dual) → Type 0
 TrioTerms R [] [] [] = Unit {0}
@@ -119,22 +119,22 @@ pick_duals : (R : ℕ → ℕ → ℕ → Type 0) → Closed R → (s : Bool) (a
 pick_duals R k true a b c a' b' c' p q = sub_duals R k a b c a' b' c' p q
 pick_duals R k false a b c a' b' c' p q = add_duals R k a b c a' b' c' p q
 
-grown_trio : (R : ℕ → ℕ → ℕ → Type 0) → Closed R → (rs ss ts : List (Bool × Dual)) (a b c : Dual) → TrioTerms R rs ss ts → Duals R a b c → Duals R (grown rs a) (grown ss b) (grown ts c)
+grown_trio : (R : ℕ → ℕ → ℕ → Type 0) → Closed R → (rs ss ts : List (Bool × Dual)) (a b c : Dual) → TrioTerms R rs ss ts → Duals R a b c → Duals R (incremented_dual rs a) (incremented_dual ss b) (incremented_dual ts c)
 grown_trio R k [] [] [] a b c h p = p
 grown_trio R k (r ∷ rs) (s ∷ ss) (t ∷ ts) a b c h p =
     grown_trio R k rs ss ts _ _ _ h.3 (rw (h.0, h.1) (pick_duals R k r.0 a b c r.1 s.1 t.1 p h.2))
 grown_trio R k _ _ _ a b c h p = absurd h
 
 grow_cell_trio : (R : ℕ → ℕ → ℕ → Type 0) → Closed R → (site : Site) (c d e : Cells) (x : List ℕ) (n : AccessKind) (rs ss ts : List (Bool × Dual)) (p : ℕ) (v w u : Option Value)
-    → TrioCells R c d e → TrioTerms R rs ss ts → TrioCell R v w u → Tells (TrioCells R) (grow_cell site c x n rs p v) (grow_cell site d x n ss p w) (grow_cell site e x n ts p u)
+    → TrioCells R c d e → TrioTerms R rs ss ts → TrioCell R v w u → Tells (TrioCells R) (increment_cell site c x n rs p v) (increment_cell site d x n ss p w) (increment_cell site e x n ts p u)
 grow_cell_trio R k site c d e x n rs ss ts p None None None h g o = record { second = refl; third = refl; out = (refl, refl) }
 grow_cell_trio R k site c d e x n rs ss ts p (Some v) (Some w) (Some u) h g o =
     touching_trio (TrioCells R) site x p n _ _ _
-    (stored_trio R c d e p (Ring (grown rs (as_dual v))) (Ring (grown ss (as_dual w))) (Ring (grown ts (as_dual u))) h (grown_trio R k rs ss ts _ _ _ g (dual_trio R k v w u o)))
+    (stored_trio R c d e p (Ring (incremented_dual rs (as_dual v))) (Ring (incremented_dual ss (as_dual w))) (Ring (incremented_dual ts (as_dual u))) h (grown_trio R k rs ss ts _ _ _ g (dual_trio R k v w u o)))
 grow_cell_trio R k site c d e x n rs ss ts p _ _ _ h g o = absurd o
 
 grow_trio : (R : ℕ → ℕ → ℕ → Type 0) → Closed R → (site : Site) (c d e : Cells) (x : List ℕ) (n : AccessKind) (rs ss ts : List (Bool × Dual)) (o : Option ℕ)
-    → TrioCells R c d e → TrioTerms R rs ss ts → Tells (TrioCells R) (grow site c x n rs o) (grow site d x n ss o) (grow site e x n ts o)
+    → TrioCells R c d e → TrioTerms R rs ss ts → Tells (TrioCells R) (increment_place site c x n rs o) (increment_place site d x n ss o) (increment_place site e x n ts o)
 grow_trio R k site c d e x n rs ss ts None h g = record { second = refl; third = refl; out = (refl, refl) }
 grow_trio R k site c d e x n rs ss ts (Some p) h g =
     grow_cell_trio R k site c d e x n rs ss ts p (content c p) (content d p) (content e p) h g (content_trio R c d e p h)
@@ -146,12 +146,12 @@ increment_trio R k site p rest n c d e h =
     (λ rs ss ts g. bind (Trios R) (TrioCells R) (values_of p.subscripts site c) (values_of p.subscripts site d) (values_of p.subscripts site e) _ _ _ (values_trio R k p.subscripts site c d e h)
     (λ vs ws us gs. at_subscripts rs ss ts g vs ws us (wholes_trio R vs ws us gs)))
   where
-    at_subscripts : (rs ss ts : List (Bool × Dual)) → TrioTerms R rs ss ts → (vs ws us : List Value) → (wholes ws ≡ wholes vs) × (wholes us ≡ wholes vs)
-        → Tells (TrioCells R) (grow site c p.name n rs (place_of site p.name (wholes vs))) (grow site d p.name n ss (place_of site p.name (wholes ws))) (grow site e p.name n ts (place_of site p.name (wholes us)))
-    at_subscripts rs ss ts g vs ws us q = rw (q.0, q.1) (grow_trio R k site c d e p.name n rs ss ts (place_of site p.name (wholes vs)) h g)
+    at_subscripts : (rs ss ts : List (Bool × Dual)) → TrioTerms R rs ss ts → (vs ws us : List Value) → (whole_numbers ws ≡ whole_numbers vs) × (whole_numbers us ≡ whole_numbers vs)
+        → Tells (TrioCells R) (increment_place site c p.name n rs (place_of site p.name (whole_numbers vs))) (increment_place site d p.name n ss (place_of site p.name (whole_numbers ws))) (increment_place site e p.name n ts (place_of site p.name (whole_numbers us)))
+    at_subscripts rs ss ts g vs ws us q = rw (q.0, q.1) (grow_trio R k site c d e p.name n rs ss ts (place_of site p.name (whole_numbers vs)) h g)
 
 assigned_trio : (R : ℕ → ℕ → ℕ → Type 0) → Closed R → (site : Site) (atomic : Bool) (p : Designator) (a : Expression) (o : Option (List Signed)) (c d e : Cells) → TrioCells R c d e
-    → Tells (TrioCells R) (assigned site c atomic p a o) (assigned site d atomic p a o) (assigned site e atomic p a o)
+    → Tells (TrioCells R) (assignment_by site c atomic p a o) (assignment_by site d atomic p a o) (assignment_by site e atomic p a o)
 assigned_trio R k site atomic p a None c d e h = plain_trio R k site p a c d e h
 assigned_trio R k site atomic p a (Some rest) c d e h = increment_trio R k site p rest _ c d e h
 
@@ -188,11 +188,11 @@ set_at_trio : (R : ℕ → ℕ → ℕ → Type 0) (o : Option ℕ) (v w u : Opt
 set_at_trio R None v w u c d e g h = h
 set_at_trio R (Some p) v w u c d e g h = set_trio R c d e p v w u h g
 
-setting_trio : (R : ℕ → ℕ → ℕ → Type 0) (site : Site) (x : List ℕ) (z : ℤ) (f : Run) → Steady R f → Steady R (setting site x z f)
+setting_trio : (R : ℕ → ℕ → ℕ → Type 0) (site : Site) (x : List ℕ) (z : ℤ) (f : Run) → Steady R f → Steady R (with_variable site x z f)
 setting_trio R site x z f k c d e h =
     after_trio (TrioCells R) _ _ _ _ (k _ _ _ (set_at_trio R (place_of site x []) _ _ _ c d e (refl, refl) h))
 
-unset_trio : (R : ℕ → ℕ → ℕ → Type 0) (site : Site) (xs : List (List ℕ)) (c d e : Cells) → TrioCells R c d e → TrioCells R (unset_all site xs c) (unset_all site xs d) (unset_all site xs e)
+unset_trio : (R : ℕ → ℕ → ℕ → Type 0) (site : Site) (xs : List (List ℕ)) (c d e : Cells) → TrioCells R c d e → TrioCells R (with_all_unset site xs c) (with_all_unset site xs d) (with_all_unset site xs e)
 unset_trio R site [] c d e h = h
 unset_trio R site (x ∷ xs) c d e h = unset_trio R site xs _ _ _ (set_at_trio R (place_of site x []) None None None c d e tt h)
 
@@ -210,7 +210,7 @@ private_words_trio R site body (x ∷ xs) c d e h =
     (rw (q.0, r.0) refl, rw (q.1, r.1) refl)
 
 private_noted_trio : (R : ℕ → ℕ → ℕ → Type 0) (site : Site) (body : Statements) (xs : List (List ℕ)) (c d e : Cells) → TrioCells R c d e
-    → Tells (TrioCells R) (noted (private_words site body xs c) c) (noted (private_words site body xs d) d) (noted (private_words site body xs e) e)
+    → Tells (TrioCells R) (with_log (private_words site body xs c) c) (with_log (private_words site body xs d) d) (with_log (private_words site body xs e) e)
 private_noted_trio R site body xs c d e h =
     let r : (private_words site body xs d ≡ private_words site body xs c) × (private_words site body xs e ≡ private_words site body xs c) = private_words_trio R site body xs c d e h in
     record { second = r.0; third = r.1; out = h }
@@ -218,11 +218,11 @@ private_noted_trio R site body xs c d e h =
 one_turn_trio : (R : ℕ → ℕ → ℕ → Type 0) (site : Site) (var : List ℕ) (t : IterationCount) (body : Site → Run) → ((s : Site) → Steady R (body s)) → (i : ℕ) → Steady R (one_turn site var t body i)
 one_turn_trio R site var t body k i c d e h = inside_trio (TrioCells R) (turn i) _ _ _ (setting_trio R site var (value_at t i) (body (in_turn site var)) (k (in_turn site var)) c d e h)
 
-setting_all_trio : (R : ℕ → ℕ → ℕ → Type 0) (site : Site) (hs : Heads) (i : ℕ) (f : Run) → Steady R f → Steady R (setting_all site hs i f)
+setting_all_trio : (R : ℕ → ℕ → ℕ → Type 0) (site : Site) (hs : Heads) (i : ℕ) (f : Run) → Steady R f → Steady R (with_variables site hs i f)
 setting_all_trio R site [] i f k c d e h = k c d e h
 setting_all_trio R site (x ∷ []) i f k c d e h = setting_trio R site x.0 (value_at x.1 i) f k c d e h
 setting_all_trio R site (x ∷ y ∷ hs) i f k c d e h =
-    setting_trio R site x.0 (value_at x.1 (i / iterations (y ∷ hs))) (setting_all site (y ∷ hs) (i % iterations (y ∷ hs)) f)
+    setting_trio R site x.0 (value_at x.1 (i / iterations (y ∷ hs))) (with_variables site (y ∷ hs) (i % iterations (y ∷ hs)) f)
     (setting_all_trio R site (y ∷ hs) (i % iterations (y ∷ hs)) f k) c d e h
 
 further_trio : (R : ℕ → ℕ → ℕ → Type 0) → Closed R → (o : Option Head) (site : Site) (c d e : Cells) → TrioCells R c d e → Tells Equals (further_turns o site c) (further_turns o site d) (further_turns o site e)
@@ -260,10 +260,10 @@ run_parallel_trio R line directive var tree body k site hs c d e h =
 -- ---- statements
 
 chosen_trio : (R : ℕ → ℕ → ℕ → Type 0) (p q r : Bool) (f g : Run) → Equals p q r → Steady R f → Steady R g → (c d e : Cells) → TrioCells R c d e
-    → Tells (TrioCells R) (chosen p f g c) (chosen q f g d) (chosen r f g e)
+    → Tells (TrioCells R) (choice p f g c) (choice q f g d) (choice r f g e)
 chosen_trio R p q r f g o k l c d e h = rw (o.0, o.1) (by_test p)
   where
-    by_test : (b : Bool) → Tells (TrioCells R) (chosen b f g c) (chosen b f g d) (chosen b f g e)
+    by_test : (b : Bool) → Tells (TrioCells R) (choice b f g c) (choice b f g d) (choice b f g e)
     by_test true = k c d e h
     by_test false = l c d e h
 

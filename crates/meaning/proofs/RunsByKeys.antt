@@ -14,11 +14,11 @@ use Rattle.meaning.specs.declared.value.Value.{Value}
 use Rattle.meaning.specs.declared.value.Value.TheVariants.{Index, Ring}
 use Rattle.meaning.specs.declared.value.Cause.{Cause}
 use Rattle.meaning.specs.declared.value.IterationCount.{IterationCount}
-use Rattle.meaning.specs.Values.{as_dual, converted, wholes}
+use Rattle.meaning.specs.Values.{as_dual, as_kind, whole_numbers}
 use Rattle.meaning.specs.Logs.{single, pushes, right_side, condition, Traced, after, inside, at_line, at_line_by}
 use Rattle.meaning.specs.Sites.{Key, Cells, Site, in_turn, place_of, kind_of, word_of}
 use Rattle.meaning.specs.Expressions.{content, value_of, values_of, holds}
-use Rattle.meaning.specs.Statements.{Run, noted, stored, saving, put, plain, terms_of, grown, grow_cell, grow, increment, assigned, step_value, turns_of, value_at, set_at, turns, loop_words, one_turn, chosen, in_arm, run, run_all, run_arms}
+use Rattle.meaning.specs.Statements.{Run, with_log, store_at, after_push, put, plain_assignment, terms_of, incremented_dual, increment_cell, increment_place, increment, assignment_by, step_value, turns_of, value_at, set_at, turns, loop_words, one_turn, choice, in_arm, run, run_all, run_arms}
 use Rattle.meaning.specs.Sequential.{is_sequential, are_sequential, are_arms_sequential}
 use Rattle.meaning.specs.Laws.{SequentialRunsGoByKeys}
 use Rattle.meaning.proofs.ByKeys.{Agree, then_agree, touching_out, value_agree, values_agree, holds_agree}
@@ -38,27 +38,27 @@ same_place s t x zs h = ap (λ (ks : List Key). first_at (same_key (x, zs)) ks) 
 same_kind : (s t : Site) (x : List ℕ) → Alike s t → kind_of s x ≡ kind_of t x
 same_kind s t x h = ap (λ b. if b then kind.Ring else kind.Index) (h.ring x)
 
-saving_out : {A : Type 0} (s : Site) (x : List ℕ) (old : Option Value) (t : Traced Cause A) → (saving s x old t).out ≡ t.out
+saving_out : {A : Type 0} (s : Site) (x : List ℕ) (old : Option Value) (t : Traced Cause A) → (after_push s x old t).out ≡ t.out
 saving_out s x old t = by_test (s.pushed x)
   where
     by_test : (b : Bool) → (if b then after (single (pushes (word_of old))) t else t).out ≡ t.out
     by_test true = refl
     by_test false = refl
 
-put_out : (s : Site) (c : Cells) (x : List ℕ) (v : Value) (p : ℕ) → (put s c x v (Some p)).out ≡ Ok (slice_set c p (Some (converted (kind_of s x) v)))
+put_out : (s : Site) (c : Cells) (x : List ℕ) (v : Value) (p : ℕ) → (put s c x v (Some p)).out ≡ Ok (slice_set c p (Some (as_kind (kind_of s x) v)))
 put_out s c x v p =
-    let t = stored c p (converted (kind_of s x) v) in
-    touching_out s x p Write (saving s x (content c p) t) ∙ saving_out s x (content c p) t
+    let t = store_at c p (as_kind (kind_of s x) v) in
+    touching_out s x p Write (after_push s x (content c p) t) ∙ saving_out s x (content c p) t
 
 put_agree : (s t : Site) (c : Cells) (x : List ℕ) (v : Value) (o : Option ℕ) → Alike s t → Agree (put s c x v o) (put t c x v o)
 put_agree s t c x v None h = refl
-put_agree s t c x v (Some p) h = put_out s c x v p ∙ ap (λ k. Ok (slice_set c p (Some (converted k v)))) (same_kind s t x h) ∙ sym (put_out t c x v p)
+put_agree s t c x v (Some p) h = put_out s c x v p ∙ ap (λ k. Ok (slice_set c p (Some (as_kind k v)))) (same_kind s t x h) ∙ sym (put_out t c x v p)
 
-plain_agree : (s t : Site) (c : Cells) (p : Designator) (e : Expression) → Alike s t → Agree (plain s c p e) (plain t c p e)
+plain_agree : (s t : Site) (c : Cells) (p : Designator) (e : Expression) → Alike s t → Agree (plain_assignment s c p e) (plain_assignment t c p e)
 plain_agree s t c p e h =
     then_agree (inside (right_side p.name) (value_of e s c)) (inside (right_side p.name) (value_of e t c)) _ _ (value_agree s t c h.keys h.width e)
     (λ v. then_agree (values_of p.subscripts s c) (values_of p.subscripts t c) _ _ (values_agree s t c h.keys h.width p.subscripts)
-    (λ vs. ap (λ o. (put s c p.name v o).out) (same_place s t p.name (wholes vs) h) ∙ put_agree s t c p.name v (place_of t p.name (wholes vs)) h))
+    (λ vs. ap (λ o. (put s c p.name v o).out) (same_place s t p.name (whole_numbers vs) h) ∙ put_agree s t c p.name v (place_of t p.name (whole_numbers vs)) h))
 
 terms_agree : (s t : Site) (c : Cells) (rs : List Signed) → Alike s t → Agree (terms_of rs s c) (terms_of rs t c)
 terms_agree s t c [] h = refl
@@ -66,13 +66,13 @@ terms_agree s t c (r ∷ rs) h =
     then_agree (value_of r.1 s c) (value_of r.1 t c) _ _ (value_agree s t c h.keys h.width r.1)
     (λ v. then_agree (terms_of rs s c) (terms_of rs t c) _ _ (terms_agree s t c rs h) (λ ds. refl))
 
-grow_cell_agree : (s t : Site) (c : Cells) (x : List ℕ) (k j : AccessKind) (ds : List (Bool × Dual)) (p : ℕ) (o : Option Value) → Agree (grow_cell s c x k ds p o) (grow_cell t c x j ds p o)
+grow_cell_agree : (s t : Site) (c : Cells) (x : List ℕ) (k j : AccessKind) (ds : List (Bool × Dual)) (p : ℕ) (o : Option Value) → Agree (increment_cell s c x k ds p o) (increment_cell t c x j ds p o)
 grow_cell_agree s t c x k j ds p None = refl
 grow_cell_agree s t c x k j ds p (Some v) =
-    let u : Traced Cause Cells = stored c p (Ring (grown ds (as_dual v))) in
+    let u : Traced Cause Cells = store_at c p (Ring (incremented_dual ds (as_dual v))) in
     touching_out s x p k u ∙ sym (touching_out t x p j u)
 
-grow_agree : (s t : Site) (c : Cells) (x : List ℕ) (k j : AccessKind) (ds : List (Bool × Dual)) (o : Option ℕ) → Agree (grow s c x k ds o) (grow t c x j ds o)
+grow_agree : (s t : Site) (c : Cells) (x : List ℕ) (k j : AccessKind) (ds : List (Bool × Dual)) (o : Option ℕ) → Agree (increment_place s c x k ds o) (increment_place t c x j ds o)
 grow_agree s t c x k j ds None = refl
 grow_agree s t c x k j ds (Some p) = grow_cell_agree s t c x k j ds p (content c p)
 
@@ -80,9 +80,9 @@ increment_agree : (s t : Site) (c : Cells) (p : Designator) (rs : List Signed) (
 increment_agree s t c p rs k j h =
     then_agree (inside (right_side p.name) (terms_of rs s c)) (inside (right_side p.name) (terms_of rs t c)) _ _ (terms_agree s t c rs h)
     (λ ds. then_agree (values_of p.subscripts s c) (values_of p.subscripts t c) _ _ (values_agree s t c h.keys h.width p.subscripts)
-    (λ vs. ap (λ o. (grow s c p.name k ds o).out) (same_place s t p.name (wholes vs) h) ∙ grow_agree s t c p.name k j ds (place_of t p.name (wholes vs))))
+    (λ vs. ap (λ o. (increment_place s c p.name k ds o).out) (same_place s t p.name (whole_numbers vs) h) ∙ grow_agree s t c p.name k j ds (place_of t p.name (whole_numbers vs))))
 
-pub assigned_agree : (s t : Site) (c : Cells) (atomic : Bool) (p : Designator) (e : Expression) (o : Option (List Signed)) → Alike s t → Agree (assigned s c atomic p e o) (assigned t c atomic p e o)
+pub assigned_agree : (s t : Site) (c : Cells) (atomic : Bool) (p : Designator) (e : Expression) (o : Option (List Signed)) → Alike s t → Agree (assignment_by s c atomic p e o) (assignment_by t c atomic p e o)
 assigned_agree s t c atomic p e None h = plain_agree s t c p e h
 assigned_agree s t c atomic p e (Some rs) h = increment_agree s t c p rs (increment_kind atomic (s.pluses p.name)) (increment_kind atomic (t.pluses p.name)) h
 
@@ -112,25 +112,25 @@ pub one_turn_agree : (s t : Site) (var : List ℕ) (u : IterationCount) (f g : S
 one_turn_agree s t var u f g e h k c =
     ap (λ o. (f (in_turn s var) (set_at o (Some (Index (value_at u k))) c)).out) (same_place s t var [] h) ∙ e (set_at (place_of t var []) (Some (Index (value_at u k))) c)
 
-pub chosen_agree : (b : Bool) (f g h k : Run) (c : Cells) → Agree (f c) (g c) → Agree (h c) (k c) → Agree (chosen b f h c) (chosen b g k c)
+pub chosen_agree : (b : Bool) (f g h k : Run) (c : Cells) → Agree (f c) (g c) → Agree (h c) (k c) → Agree (choice b f h c) (choice b g k c)
 chosen_agree true f g h k c e d = e
 chosen_agree false f g h k c e d = d
 
 pub in_arm_agree : (m : ℕ) (f g : Run) (c : Cells) → Agree (f c) (g c) → Agree (in_arm m f c) (in_arm m g c)
-in_arm_agree m f g c e = then_agree (f c) (g c) (noted (single (pushes m))) (noted (single (pushes m))) e (λ d. refl)
+in_arm_agree m f g c e = then_agree (f c) (g c) (with_log (single (pushes m))) (with_log (single (pushes m))) e (λ d. refl)
 
 mutual
   run_agree : (b : Statement) → is_sequential b ≡ true → (s t : Site) → Alike s t → (c : Cells) → Agree (run b s c) (run b t c)
   run_agree (assignment line atomic p e) q s t h c =
-      line_agree line (assigned s c atomic p e (increment_terms s.ring p e)) (assigned t c atomic p e (increment_terms t.ring p e))
-      (ap (λ b. (assigned s c atomic p e (if b then rest_terms p e else None)).out) (h.ring p.name) ∙ assigned_agree s t c atomic p e (increment_terms t.ring p e) h)
+      line_agree line (assignment_by s c atomic p e (increment_terms s.ring p e)) (assignment_by t c atomic p e (increment_terms t.ring p e))
+      (ap (λ b. (assignment_by s c atomic p e (if b then rest_terms p e else None)).out) (h.ring p.name) ∙ assigned_agree s t c atomic p e (increment_terms t.ring p e) h)
   run_agree (branch line arms other) q s t h c =
       let r : (are_arms_sequential arms ≡ true) × (are_sequential other ≡ true) = and_parts (are_arms_sequential arms) (are_sequential other) q in
       arms_agree arms r.0 line 0 (run_all other) s t (λ d. run_all_agree other r.1 s t h d) h c
   run_agree (loop line number None var first last step body) q s t h c =
       then_agree (at_line line (turns_of first last step s c)) (at_line line (turns_of first last step t c)) _ _
       (line_agree line (turns_of first last step s c) (turns_of first last step t c) (turns_of_agree s t c first last step h))
-      (λ u. then_agree (turns u.count (one_turn s var u (run_all body)) c) (turns u.count (one_turn t var u (run_all body)) c) (noted (loop_words u)) (noted (loop_words u))
+      (λ u. then_agree (turns u.count (one_turn s var u (run_all body)) c) (turns u.count (one_turn t var u (run_all body)) c) (with_log (loop_words u)) (with_log (loop_words u))
       (turns_agree u.count (one_turn s var u (run_all body)) (one_turn t var u (run_all body))
       (one_turn_agree s t var u (run_all body) (run_all body) (run_all_agree body q (in_turn s var) (in_turn t var) (turned_alike s t var h)) h) c)
       (λ d. refl))

@@ -3,11 +3,11 @@ use Rattle.std.specs.Prelude.{◌≡◌, ℕ, suc, List, [], ◌∷◌, ◌++◌
 use Rattle.fl_ast.specs.declared.kind.Kind.TheVariants as kind
 use Rattle.fl_ast.specs.declared.directive.Directive.{Directive}
 use Rattle.fl_ast.specs.Tree.{Statements, statement}
-use Rattle.ring_core.specs.Index.{fitted}
+use Rattle.ring_core.specs.Index.{exact_index}
 use Rattle.fl_types.specs.declared.access.AccessKind.{AccessKind}
 use Rattle.fl_types.specs.declared.access.AccessKind.TheVariants.{Read, Write}
 use Rattle.meaning.specs.declared.value.Value.{Value}
-use Rattle.meaning.specs.Logs.{Event, touches, begins, pushes, ends, Passage, instance, right_side, rounds, iteration, Log, silence, single, touched, sets, both, within, events, replayed}
+use Rattle.meaning.specs.Logs.{Event, touches, begins, pushes, ends, Passage, instance, right_side, rounds, iteration, Log, silence, single, touched, sets, both, within, events, replay}
 use Rattle.meaning.specs.Sites.{Cells, Site, opening_site}
 use Rattle.meaning.specs.Expressions.{content}
 use Rattle.meaning.specs.Statements.{run_all}
@@ -68,15 +68,15 @@ pub one_square : marks (run_all squares (site 1) (number 1 ∷ word 3 ∷ word 1
     ∷ touches_at 2 Write ∷ stores 2 (word 19) ∷ closes
     ∷ tells (pushes 9) ∷ closes ∷ closes
     ∷ tells (ends 5) ∷ tells (pushes 1) ∷ tells (pushes 1) ∷ tells (pushes 1) ∷ closes ∷ []
-unfolding fitted
+unfolding exact_index
 one_square = refl
 
 abbrev cells : Cells
 cells = number 2 ∷ word 3 ∷ word 5 ∷ word 1 ∷ word 2 ∷ None ∷ None ∷ []
 
-pub squares_replayed : replayed (run_all squares (site 2) cells).log cells
+pub squares_replayed : replay (run_all squares (site 2) cells).log cells
     ≡ number 2 ∷ word 3 ∷ word 5 ∷ word 10 ∷ word 27 ∷ number 2 ∷ word 25 ∷ []
-unfolding fitted
+unfolding exact_index
 squares_replayed = refl
 
 -- parallel do i = 1, n: y(i) = x(i), where y has three elements: the cells where it traps
@@ -84,13 +84,13 @@ abbrev copy : Statements
 copy = parallel clauses i (one 1) (name n) (only (set 6 (into y (name i)) (at x (name i))))
 
 pub copy_replayed :
-    replayed
+    replay
     (run_all copy
     (opening_site (declared kind.Index n ∷ declared kind.Index i ∷ declared kind.Ring x ∷ declared kind.Ring y ∷ []) (scalar n ∷ array x 4 ∷ array y 3 ∷ []) all_pushed)
     (number 4 ∷ word 1 ∷ word 2 ∷ word 3 ∷ word 4 ∷ word 0 ∷ word 0 ∷ word 0 ∷ None ∷ [])).log
     (number 4 ∷ word 1 ∷ word 2 ∷ word 3 ∷ word 4 ∷ word 0 ∷ word 0 ∷ word 0 ∷ None ∷ [])
     ≡ number 4 ∷ word 1 ∷ word 2 ∷ word 3 ∷ word 4 ∷ word 1 ∷ word 2 ∷ word 3 ∷ number 4 ∷ []
-unfolding fitted
+unfolding exact_index
 copy_replayed = refl
 
 -- the touches of an iteration have its number
@@ -100,25 +100,25 @@ pub squares_events : events (run_all squares (site 2) cells).log
     ∷ begins ∷ begins ∷ touches (record { place = 2; iteration = 1; kind = Read }) ∷ touches (record { place = 2; iteration = 1; kind = Read }) ∷ pushes 0
     ∷ begins ∷ touches (record { place = 4; iteration = 1; kind = Write }) ∷ pushes 25
     ∷ ends 5 ∷ pushes 1 ∷ pushes 2 ∷ pushes 1 ∷ []
-unfolding fitted
+unfolding exact_index
 squares_events = refl
 
 -- with four touches allowed, the run stops in the second iteration, before the second touch of x(2)
 pub squares_at_stop : cells_at_stop by_conflict (record the_limits { touches = 4 }) (run_all squares (site 2) cells).log cells
     ≡ number 2 ∷ word 3 ∷ word 5 ∷ word 10 ∷ word 2 ∷ number 2 ∷ None ∷ []
-unfolding fitted
+unfolding exact_index
 squares_at_stop = refl
 
 abbrev squares_told : List Event
 squares_told = events (run_all squares (site 2) cells).log
 
 pub squares_ticks : ticks by_conflict (record the_limits { touches = 4 }) squares_told ≡ 6
-unfolding fitted
+unfolding exact_index
 squares_ticks = refl
 
 -- the statement that passes a limit counts, too
 pub squares_ticks_over : ticks by_conflict (record the_limits { statements = 4 }) squares_told ≡ 5
-unfolding fitted
+unfolding exact_index
 squares_ticks_over = refl
 
 -- where nothing is judged a conflict, the run that has one goes on
@@ -126,17 +126,17 @@ abbrev sum : Statements
 sum = parallel clauses i (one 1) (name n) (only (set 6 (into y (one 1)) (at y (one 1) plus at x (name i))))
 
 pub sum_conflict : first_stop by_conflict the_limits (events (run_all sum (site 2) cells).log) ≡ conflicted 5 (record { place = 3; first = 0; second = 1 })
-unfolding fitted
+unfolding exact_index
 sum_conflict = refl
 
 pub sum_unjudged : first_stop (λ line ts. None) the_limits (events (run_all sum (site 2) cells).log) ≡ at_end
-unfolding fitted
+unfolding exact_index
 sum_unjudged = refl
 
 -- at the conflict y(1) has both terms, and the loop's words are not told yet
 pub sum_at_stop : cells_at_stop by_conflict the_limits (run_all sum (site 2) cells).log cells
     ≡ number 2 ∷ word 3 ∷ word 5 ∷ word 9 ∷ word 2 ∷ number 2 ∷ None ∷ []
-unfolding fitted
+unfolding exact_index
 sum_at_stop = refl
 
 -- contents compute from the front

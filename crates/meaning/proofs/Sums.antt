@@ -4,7 +4,7 @@ use Rattle.fl_ast.specs.declared.kind.Kind.TheVariants as kind
 use Rattle.fl_ast.specs.declared.directive.Directive.{Directive}
 use Rattle.fl_ast.specs.Tree.{Statements, assignment}
 use Rattle.fl_types.specs.declared.access.AccessKind.TheVariants.{Read, Update}
-use Rattle.ring_core.specs.Index.{fitted}
+use Rattle.ring_core.specs.Index.{exact_index}
 use Rattle.meaning.specs.Logs.{events, begins, touches, pushes, ends}
 use Rattle.meaning.specs.Sites.{Cells, Site, opening_site}
 use Rattle.meaning.specs.Statements.{run_all}
@@ -46,11 +46,11 @@ abbrev scale_cells : Cells
 scale_cells = number 2 ∷ word 3 ∷ word 1 ∷ word 2 ∷ word 0 ∷ word 0 ∷ None ∷ []
 
 pub scale_value : (run_all scale scaling scale_cells).out ≡ Ok (number 2 ∷ word 3 ∷ word 1 ∷ word 2 ∷ word 3 ∷ word 6 ∷ number 2 ∷ [])
-unfolding fitted
+unfolding exact_index
 scale_value = refl
 
 pub scale_adjoint : map (adjoint_at (run_all scale scaling) scale_cells (0 ∷ 0 ∷ 0 ∷ 0 ∷ 10 ∷ 100 ∷ [])) (1 ∷ 2 ∷ 3 ∷ []) ≡ 210 ∷ 30 ∷ 300 ∷ []
-unfolding fitted
+unfolding exact_index
 scale_adjoint = refl
 
 abbrev counting : Site
@@ -68,20 +68,20 @@ abbrev tally_cells : Cells
 tally_cells = number 2 ∷ number 1 ∷ number 1 ∷ word 2 ∷ word 3 ∷ word 0 ∷ word 0 ∷ None ∷ []
 
 pub tally_value : (run_all tally counting tally_cells).out ≡ Ok (number 2 ∷ number 1 ∷ number 1 ∷ word 2 ∷ word 3 ∷ word 13 ∷ word 0 ∷ number 2 ∷ [])
-unfolding fitted
+unfolding exact_index
 tally_value = refl
 
 pub tally_adjoint : map (adjoint_at (run_all tally counting) tally_cells (0 ∷ 0 ∷ 0 ∷ 0 ∷ 0 ∷ 1 ∷ 0 ∷ [])) (3 ∷ 4 ∷ []) ≡ 4 ∷ 6 ∷ []
-unfolding fitted
+unfolding exact_index
 tally_adjoint = refl
 
 pub tally_stop : first_stop by_conflict the_limits (events (run_all tally counting tally_cells).log) ≡ at_end
-unfolding fitted
+unfolding exact_index
 tally_stop = refl
 
 -- the ninth touch passes a limit of seven
 pub tally_limit : first_stop by_conflict (record the_limits { touches = 7 }) (events (run_all tally counting tally_cells).log) ≡ over_touches
-unfolding fitted
+unfolding exact_index
 tally_limit = refl
 
 abbrev summing : Site
@@ -100,20 +100,20 @@ abbrev dot_cells : Cells
 dot_cells = number 3 ∷ word 1 ∷ word 2 ∷ word 3 ∷ word 5 ∷ None ∷ []
 
 pub dot_value : (run_all (dot reducing) summing dot_cells).out ≡ Ok (number 3 ∷ word 1 ∷ word 2 ∷ word 3 ∷ word 19 ∷ number 3 ∷ [])
-unfolding fitted
+unfolding exact_index
 dot_value = refl
 
 pub dot_adjoint : map (adjoint_at (run_all (dot reducing) summing) dot_cells (0 ∷ 0 ∷ 0 ∷ 0 ∷ 2 ∷ [])) (4 ∷ 1 ∷ 2 ∷ 3 ∷ []) ≡ 2 ∷ 4 ∷ 8 ∷ 12 ∷ []
-unfolding fitted
+unfolding exact_index
 dot_adjoint = refl
 
 pub dot_stop : first_stop by_conflict the_limits (events (run_all (dot reducing) summing dot_cells).log) ≡ at_end
-unfolding fitted
+unfolding exact_index
 dot_stop = refl
 
 -- without the clause each iteration writes s
 pub dot_conflict : first_stop by_conflict the_limits (events (run_all (dot clauses) summing dot_cells).log) ≡ conflicted 5 (record { place = 4; first = 0; second = 1 })
-unfolding fitted
+unfolding exact_index
 dot_conflict = refl
 
 -- an increment reads x twice, updates s, and pushes nothing; the loop ends before its three words
@@ -121,5 +121,5 @@ pub dot_events :
     events (run_all (dot reducing) summing (number 1 ∷ word 1 ∷ word 2 ∷ word 3 ∷ word 5 ∷ None ∷ [])).log
     ≡ begins ∷ begins ∷ begins ∷ touches (record { place = 1; iteration = 0; kind = Read }) ∷ touches (record { place = 1; iteration = 0; kind = Read })
     ∷ touches (record { place = 4; iteration = 0; kind = Update }) ∷ ends 5 ∷ pushes 1 ∷ pushes 1 ∷ pushes 1 ∷ []
-unfolding fitted
+unfolding exact_index
 dot_events = refl

@@ -16,11 +16,11 @@ use Rattle.meaning.specs.declared.value.Cause.{Cause}
 use Rattle.meaning.specs.declared.value.Cause.TheVariants.{ZeroDivisor}
 use Rattle.meaning.specs.declared.value.Dual.{Dual}
 use Rattle.meaning.specs.declared.value.IterationCount.{IterationCount}
-use Rattle.meaning.specs.Values.{as_dual, converted, whole, wholes}
-use Rattle.meaning.specs.Logs.{Log, silence, lift, single, touched, pushes, ends, both, right_side, rounds, condition, Traced, pure, after, joined, ◌>>=◌, inside, at_line, at_line_by, Event, begins, traps, touches, events_in}
+use Rattle.meaning.specs.Values.{as_dual, as_kind, whole_number, whole_numbers}
+use Rattle.meaning.specs.Logs.{Log, silence, lift, single, touched, pushes, ends, both, right_side, rounds, condition, Traced, pure, after, continuation, ◌>>=◌, inside, at_line, at_line_by, Event, begins, traps, touches, events_in}
 use Rattle.meaning.specs.Sites.{Cells, Site, in_turn, in_iteration, place_of, kind_of, word_of}
-use Rattle.meaning.specs.Expressions.{touching, content, read_cell, read_place, read, value_of, values_of, holds}
-use Rattle.meaning.specs.Statements.{Run, noted, stored, saving, put, plain, terms_of, grown, grow_cell, grow, increment, assigned, turns_by, step_value, turns_of, value_at, set_at, set_log_at, setting, turns, private_names, unset_all, unset_log, content_at, private_words, one_turn, Heads, iterations, setting_all, words_of_all, further_turns, heads_of, one_iteration, run_turns, run_parallel, chosen, in_arm, run, run_all, run_inner, run_within, run_arms}
+use Rattle.meaning.specs.Expressions.{after_touch, content, read_cell, read_place, read, value_of, values_of, holds}
+use Rattle.meaning.specs.Statements.{Run, with_log, store_at, after_push, put, plain_assignment, terms_of, incremented_dual, increment_cell, increment_place, increment, assignment_by, turns_by, step_value, turns_of, value_at, set_at, set_log_at, with_variable, turns, private_names, with_all_unset, unset_log, content_at, private_words, one_turn, Heads, iterations, with_variables, words_of_all, further_turns, heads_of, one_iteration, run_turns, run_parallel, choice, in_arm, run, run_all, run_inner, run_within, run_arms}
 use Rattle.meaning.specs.declared.value.TrapAt.{TrapAt}
 use Rattle.meaning.specs.Laws.{trap_in, trap_of, TrapsAreTold}
 
@@ -55,14 +55,14 @@ trap_both (traps t ∷ es) fs = refl
 after_none : (l m : Log) (k : ℕ) → trap_in (events_in k l) ≡ None → trap_in (events_in k (both l m)) ≡ trap_in (events_in k m)
 after_none l m k h = trap_both (events_in k l) (events_in k m) ∙ ap (λ o. first o (trap_in (events_in k m))) h
 
-joined_keeps : {X A B : Type 0} (l : Log) (r : Result A X) (f : A → Traced X B) → NoTrap l → ((a : A) → Keeps (f a)) → Keeps (joined l r f)
+joined_keeps : {X A B : Type 0} (l : Log) (r : Result A X) (f : A → Traced X B) → NoTrap l → ((a : A) → Keeps (f a)) → Keeps (continuation l r f)
 joined_keeps l (Ok a) f h g k = after_none l (f a).log k (h k) ∙ g a k
 joined_keeps l (Err x) f h g k = h k
 
 then_keeps : {X A B : Type 0} (t : Traced X A) (f : A → Traced X B) → Keeps t → ((a : A) → Keeps (f a)) → Keeps (t >>= f)
 then_keeps t f h g = joined_keeps t.log t.out f h g
 
-joined_tracks : {A B : Type 0} (l : Log) (r : Result A TrapAt) (f : A → Traced TrapAt B) → ((k : ℕ) → trap_in (events_in k l) ≡ trap_at r) → ((a : A) → Tracks (f a)) → Tracks (joined l r f)
+joined_tracks : {A B : Type 0} (l : Log) (r : Result A TrapAt) (f : A → Traced TrapAt B) → ((k : ℕ) → trap_in (events_in k l) ≡ trap_at r) → ((a : A) → Tracks (f a)) → Tracks (continuation l r f)
 joined_tracks l (Ok a) f h g k = after_none l (f a).log k (h k) ∙ g a k
 joined_tracks l (Err x) f h g k = h k
 
@@ -78,7 +78,7 @@ line_tracks line t h = line_by_tracks line t.log t.out h
 
 -- ---- expressions
 
-touching_keeps : {X A : Type 0} (s : Site) (x : List ℕ) (p : ℕ) (k : AccessKind) (t : Traced X A) → Keeps t → Keeps (touching s x p k t)
+touching_keeps : {X A : Type 0} (s : Site) (x : List ℕ) (p : ℕ) (k : AccessKind) (t : Traced X A) → Keeps t → Keeps (after_touch s x p k t)
 touching_keeps s x p k t h c = by_test (s.accessed x)
   where
     by_test : (b : Bool) → trap_in (events_in c (if b then after (touched p k) t else t).log) ≡ None
@@ -96,7 +96,7 @@ place_keeps s cells x (Some p) c = cell_keeps s x p (content cells p) c
 mutual
   value_keeps : (a : Expression) (s : Site) (cells : Cells) → Keeps (value_of a s cells)
   value_keeps (literal n k) s cells c = refl
-  value_keeps (get x ss) s cells c = then_keeps (values_of ss s cells) (read s cells x) (values_keep ss s cells) (λ vs. place_keeps s cells x (place_of s x (wholes vs))) c
+  value_keeps (get x ss) s cells c = then_keeps (values_of ss s cells) (read s cells x) (values_keep ss s cells) (λ vs. place_keeps s cells x (place_of s x (whole_numbers vs))) c
   value_keeps (minus a) s cells c = then_keeps (value_of a s cells) _ (value_keeps a s cells) (λ v b. refl) c
   value_keeps (binary o a b) s cells c =
       then_keeps (value_of a s cells) _ (value_keeps a s cells) (λ v. then_keeps (value_of b s cells) _ (value_keeps b s cells) (λ w d. refl)) c
@@ -117,7 +117,7 @@ holds_keep (disjunction a b) s cells = then_keeps (holds a s cells) _ (holds_kee
 
 -- ---- assignments
 
-saving_keeps : {X A : Type 0} (s : Site) (x : List ℕ) (old : Option Value) (t : Traced X A) → Keeps t → Keeps (saving s x old t)
+saving_keeps : {X A : Type 0} (s : Site) (x : List ℕ) (old : Option Value) (t : Traced X A) → Keeps t → Keeps (after_push s x old t)
 saving_keeps s x old t h c = by_test (s.pushed x)
   where
     by_test : (b : Bool) → trap_in (events_in c (if b then after (single (pushes (word_of old))) t else t).log) ≡ None
@@ -127,33 +127,33 @@ saving_keeps s x old t h c = by_test (s.pushed x)
 put_keeps : (s : Site) (cells : Cells) (x : List ℕ) (v : Value) (o : Option ℕ) → Keeps (put s cells x v o)
 put_keeps s cells x v None c = refl
 put_keeps s cells x v (Some p) c =
-    touching_keeps s x p Write (saving s x (content cells p) (stored cells p (converted (kind_of s x) v)))
-    (saving_keeps s x (content cells p) (stored cells p (converted (kind_of s x) v)) (λ b. refl)) c
+    touching_keeps s x p Write (after_push s x (content cells p) (store_at cells p (as_kind (kind_of s x) v)))
+    (saving_keeps s x (content cells p) (store_at cells p (as_kind (kind_of s x) v)) (λ b. refl)) c
 
-plain_keeps : (s : Site) (cells : Cells) (p : Designator) (a : Expression) → Keeps (plain s cells p a)
+plain_keeps : (s : Site) (cells : Cells) (p : Designator) (a : Expression) → Keeps (plain_assignment s cells p a)
 plain_keeps s cells p a =
     then_keeps (inside (right_side p.name) (value_of a s cells)) _ (value_keeps a s cells)
-    (λ v. then_keeps (values_of p.subscripts s cells) _ (values_keep p.subscripts s cells) (λ vs. put_keeps s cells p.name v (place_of s p.name (wholes vs))))
+    (λ v. then_keeps (values_of p.subscripts s cells) _ (values_keep p.subscripts s cells) (λ vs. put_keeps s cells p.name v (place_of s p.name (whole_numbers vs))))
 
 terms_keep : (rs : List Signed) (s : Site) (cells : Cells) → Keeps (terms_of rs s cells)
 terms_keep [] s cells c = refl
 terms_keep (r ∷ rs) s cells c =
     then_keeps (value_of r.1 s cells) _ (value_keeps r.1 s cells) (λ v. then_keeps (terms_of rs s cells) _ (terms_keep rs s cells) (λ ds d. refl)) c
 
-grow_cell_keeps : (s : Site) (cells : Cells) (x : List ℕ) (k : AccessKind) (ds : List (Bool × Dual)) (p : ℕ) (o : Option Value) → Keeps (grow_cell s cells x k ds p o)
+grow_cell_keeps : (s : Site) (cells : Cells) (x : List ℕ) (k : AccessKind) (ds : List (Bool × Dual)) (p : ℕ) (o : Option Value) → Keeps (increment_cell s cells x k ds p o)
 grow_cell_keeps s cells x k ds p None c = refl
-grow_cell_keeps s cells x k ds p (Some v) c = touching_keeps s x p k (stored cells p (Ring (grown ds (as_dual v)))) (λ b. refl) c
+grow_cell_keeps s cells x k ds p (Some v) c = touching_keeps s x p k (store_at cells p (Ring (incremented_dual ds (as_dual v)))) (λ b. refl) c
 
-grow_keeps : (s : Site) (cells : Cells) (x : List ℕ) (k : AccessKind) (ds : List (Bool × Dual)) (o : Option ℕ) → Keeps (grow s cells x k ds o)
+grow_keeps : (s : Site) (cells : Cells) (x : List ℕ) (k : AccessKind) (ds : List (Bool × Dual)) (o : Option ℕ) → Keeps (increment_place s cells x k ds o)
 grow_keeps s cells x k ds None c = refl
 grow_keeps s cells x k ds (Some p) c = grow_cell_keeps s cells x k ds p (content cells p) c
 
 increment_keeps : (s : Site) (cells : Cells) (p : Designator) (rs : List Signed) (k : AccessKind) → Keeps (increment s cells p rs k)
 increment_keeps s cells p rs k =
     then_keeps (inside (right_side p.name) (terms_of rs s cells)) _ (terms_keep rs s cells)
-    (λ ds. then_keeps (values_of p.subscripts s cells) _ (values_keep p.subscripts s cells) (λ vs. grow_keeps s cells p.name k ds (place_of s p.name (wholes vs))))
+    (λ ds. then_keeps (values_of p.subscripts s cells) _ (values_keep p.subscripts s cells) (λ vs. grow_keeps s cells p.name k ds (place_of s p.name (whole_numbers vs))))
 
-assigned_keeps : (s : Site) (cells : Cells) (atomic : Bool) (p : Designator) (a : Expression) (o : Option (List Signed)) → Keeps (assigned s cells atomic p a o)
+assigned_keeps : (s : Site) (cells : Cells) (atomic : Bool) (p : Designator) (a : Expression) (o : Option (List Signed)) → Keeps (assignment_by s cells atomic p a o)
 assigned_keeps s cells atomic p a None = plain_keeps s cells p a
 assigned_keeps s cells atomic p a (Some rs) = increment_keeps s cells p rs _
 
@@ -177,7 +177,7 @@ turns_of_keeps : (first last : Expression) (step : Option Expression) (s : Site)
 turns_of_keeps first last step s cells =
     then_keeps (value_of first s cells) _ (value_keeps first s cells)
     (λ v. then_keeps (value_of last s cells) _ (value_keeps last s cells)
-    (λ w. then_keeps (step_value step s cells) _ (step_keeps step s cells) (λ u. by_turns_keeps (whole v) (whole w) (whole u))))
+    (λ w. then_keeps (step_value step s cells) _ (step_keeps step s cells) (λ u. by_turns_keeps (whole_number v) (whole_number w) (whole_number u))))
 
 abbrev Track : Run → Type 0
 Track f = (c : Cells) → Tracks (f c)
@@ -190,7 +190,7 @@ set_log_none : (o : Option ℕ) (v : Option Value) → NoTrap (set_log_at o v)
 set_log_none None v k = refl
 set_log_none (Some p) v k = refl
 
-setting_track : (s : Site) (x : List ℕ) (z : ℤ) (f : Run) → Track f → Track (setting s x z f)
+setting_track : (s : Site) (x : List ℕ) (z : ℤ) (f : Run) → Track f → Track (with_variable s x z f)
 setting_track s x z f h c k =
     let b : Cells = set_at (place_of s x []) (Some (Index z)) c in
     after_none (set_log_at (place_of s x []) (Some (Index z))) (f b).log k (set_log_none (place_of s x []) (Some (Index z)) k) ∙ h b k
@@ -209,11 +209,11 @@ private_none s body (x ∷ xs) cells k =
     by_test true = refl
     by_test false = refl
 
-setting_all_track : (s : Site) (hs : Heads) (k : ℕ) (f : Run) → Track f → Track (setting_all s hs k f)
+setting_all_track : (s : Site) (hs : Heads) (k : ℕ) (f : Run) → Track f → Track (with_variables s hs k f)
 setting_all_track s [] k f h = h
 setting_all_track s (x ∷ []) k f h = setting_track s x.0 (value_at x.1 k) f h
 setting_all_track s (x ∷ y ∷ hs) k f h =
-    setting_track s x.0 (value_at x.1 (k / iterations (y ∷ hs))) (setting_all s (y ∷ hs) (k % iterations (y ∷ hs)) f) (setting_all_track s (y ∷ hs) (k % iterations (y ∷ hs)) f h)
+    setting_track s x.0 (value_at x.1 (k / iterations (y ∷ hs))) (with_variables s (y ∷ hs) (k % iterations (y ∷ hs)) f) (setting_all_track s (y ∷ hs) (k % iterations (y ∷ hs)) f h)
 
 all_words_none : (hs : Heads) → NoTrap (words_of_all hs)
 all_words_none [] k = refl
@@ -239,10 +239,10 @@ one_iteration_track : (s : Site) (directive : Directive) (var : List ℕ) (hs : 
     → Track (one_iteration s directive var hs tree body i)
 one_iteration_track s directive var hs tree body h i c k =
     let names : List (List ℕ) = private_names s directive var tree in
-    let f : Run = setting_all s hs i (body (in_iteration s directive var tree)) in
-    then_tracks (after (unset_log s names) (f (unset_all s names c))) _
-    (λ j. after_none (unset_log s names) (f (unset_all s names c)).log j (unset_none s names j)
-    ∙ setting_all_track s hs i (body (in_iteration s directive var tree)) (h (in_iteration s directive var tree)) (unset_all s names c) j)
+    let f : Run = with_variables s hs i (body (in_iteration s directive var tree)) in
+    then_tracks (after (unset_log s names) (f (with_all_unset s names c))) _
+    (λ j. after_none (unset_log s names) (f (with_all_unset s names c)).log j (unset_none s names j)
+    ∙ setting_all_track s hs i (body (in_iteration s directive var tree)) (h (in_iteration s directive var tree)) (with_all_unset s names c) j)
     (λ b j. private_none s tree names b j) i
 
 run_turns_track : (var : List ℕ) (body : Site → Run) → ((u : Site) → Track (body u)) → (s : Site) (t : IterationCount) → Track (run_turns var body s t)
@@ -258,7 +258,7 @@ run_parallel_track line directive var tree body h s hs c =
 
 -- ---- statements
 
-chosen_track : (b : Bool) (f g : Run) → Track f → Track g → Track (chosen b f g)
+chosen_track : (b : Bool) (f g : Run) → Track f → Track g → Track (choice b f g)
 chosen_track true f g h k = h
 chosen_track false f g h k = k
 
@@ -267,11 +267,11 @@ either_track true f g h k s = h s
 either_track false f g h k s = k s
 
 in_arm_track : (m : ℕ) (f : Run) → Track f → Track (in_arm m f)
-in_arm_track m f h c k = then_tracks (f c) (noted (single (pushes m))) (h c) (λ b j. refl) k
+in_arm_track m f h c k = then_tracks (f c) (with_log (single (pushes m))) (h c) (λ b j. refl) k
 
 mutual
   run_track : (b : Statement) (s : Site) → Track (run b s)
-  run_track (assignment line atomic p a) s c k = line_tracks line (assigned s c atomic p a (increment_terms s.ring p a)) (assigned_keeps s c atomic p a (increment_terms s.ring p a)) k
+  run_track (assignment line atomic p a) s c k = line_tracks line (assignment_by s c atomic p a (increment_terms s.ring p a)) (assigned_keeps s c atomic p a (increment_terms s.ring p a)) k
   run_track (branch line arms other) s c k = arms_track arms line 0 (run_all other) (λ u. run_all_track other u) s c k
   run_track (loop line number None var first last step body) s c k =
       then_tracks (at_line line (turns_of first last step s c)) _ (line_tracks line (turns_of first last step s c) (turns_of_keeps first last step s c))

@@ -20,10 +20,10 @@ use Rattle.meaning.specs.declared.value.Dual.{Dual}
 use Rattle.meaning.specs.declared.value.Value.{Value}
 use Rattle.meaning.specs.declared.value.Value.TheVariants.{Index, Ring}
 use Rattle.meaning.specs.declared.value.Cause.{Cause}
-use Rattle.meaning.specs.Values.{Found, of_index, dual_add, dual_sub, dual_neg, dual_mul, dual_pow, as_dual, signed_at, rank, ranks, whole, wholes, literal_value, index_result, ring_result, binary_result, negated, power_result, larger, smaller, absolute, remainder, on_one, on_two, call_result, compares, relates}
-use Rattle.meaning.specs.Logs.{Log, touched, Traced, pure, lift, after, joined, ◌>>=◌}
+use Rattle.meaning.specs.Values.{Found, of_index, dual_add, dual_sub, dual_neg, dual_mul, dual_pow, as_dual, signed_at, rank, ranks, whole_number, whole_numbers, literal_value, index_result, ring_result, binary_result, negation_result, power_result, larger_result, smaller_result, absolute_result, remainder, on_one, on_two, call_result, compares, relates}
+use Rattle.meaning.specs.Logs.{Log, touched, Traced, pure, lift, after, continuation, ◌>>=◌}
 use Rattle.meaning.specs.Sites.{Cells, Site, place_of}
-use Rattle.meaning.specs.Expressions.{touching, content, read_cell, read_place, read, value_of, values_of, holds}
+use Rattle.meaning.specs.Expressions.{after_touch, content, read_cell, read_place, read, value_of, values_of, holds}
 
 -- a relation of tangents that sums, differences and multiples keep
 pub record Closed (R : ℕ → ℕ → ℕ → Type 0) : Type 0 where
@@ -60,7 +60,7 @@ pub record Tells {X A : Type 0} (Q : A → A → A → Type 0) (t u v : Traced X
   pub out : Outs Q t.out u.out v.out
 
 bind_by : {X A B : Type 0} (P : A → A → A → Type 0) (Q : B → B → B → Type 0) (l m n : Log) (r s t : Result A X) (f g h : A → Traced X B)
-    → m ≡ l → n ≡ l → Outs P r s t → ((a b c : A) → P a b c → Tells Q (f a) (g b) (h c)) → Tells Q (joined l r f) (joined m s g) (joined n t h)
+    → m ≡ l → n ≡ l → Outs P r s t → ((a b c : A) → P a b c → Tells Q (f a) (g b) (h c)) → Tells Q (continuation l r f) (continuation m s g) (continuation n t h)
 bind_by P Q l m n (Ok a) (Ok b) (Ok c) f g h e e' o k =
     let w : Tells Q (f a) (g b) (h c) = k a b c o in
     record { second = rw (e, w.second) refl; third = rw (e', w.third) refl; out = w.out }
@@ -135,7 +135,7 @@ ranks_trio R b (Index x) (Index y) (Index z) v' w' u' h g = rw (h.0, h.1) (index
 ranks_trio R b (Ring a) (Ring d) (Ring c) v' w' u' h g = ring_ranks R b a d c h v' w' u' g
 ranks_trio R b _ _ _ v' w' u' h g = absurd h
 
-pub whole_trio : (R : ℕ → ℕ → ℕ → Type 0) → (v w u : Value) → Trio R v w u → (whole w ≡ whole v) × (whole u ≡ whole v)
+pub whole_trio : (R : ℕ → ℕ → ℕ → Type 0) → (v w u : Value) → Trio R v w u → (whole_number w ≡ whole_number v) × (whole_number u ≡ whole_number v)
 whole_trio R (Index x) (Index y) (Index z) h = h
 whole_trio R (Ring a) (Ring b) (Ring c) h = (refl, refl)
 whole_trio R _ _ _ h = absurd h
@@ -171,7 +171,7 @@ binary_trio R k op (Index a) (Index b) (Index c) v' w' u' h g = rw (h.0, h.1) (i
 binary_trio R k op (Ring a) (Ring b) (Ring c) v' w' u' h g = ring_left R k op a b c h v' w' u' g
 binary_trio R k op _ _ _ v' w' u' h g = absurd h
 
-negated_trio : (R : ℕ → ℕ → ℕ → Type 0) → Closed R → (v w u : Value) → Trio R v w u → Outs (Trio R) (negated v) (negated w) (negated u)
+negated_trio : (R : ℕ → ℕ → ℕ → Type 0) → Closed R → (v w u : Value) → Trio R v w u → Outs (Trio R) (negation_result v) (negation_result w) (negation_result u)
 negated_trio R k (Index a) (Index b) (Index c) h = rw (h.0, h.1) (of_index_outs R _)
 negated_trio R k (Ring a) (Ring b) (Ring c) h = neg_duals R k a b c h
 negated_trio R k _ _ _ h = absurd h
@@ -192,11 +192,11 @@ Trios R [] [] [] = Unit {0}
 Trios R (a ∷ as') (b ∷ bs) (c ∷ cs) = Trio R a b c × Trios R as' bs cs
 Trios R _ _ _ = ⊥
 
-pub wholes_trio : (R : ℕ → ℕ → ℕ → Type 0) (vs ws us : List Value) → Trios R vs ws us → (wholes ws ≡ wholes vs) × (wholes us ≡ wholes vs)
+pub wholes_trio : (R : ℕ → ℕ → ℕ → Type 0) (vs ws us : List Value) → Trios R vs ws us → (whole_numbers ws ≡ whole_numbers vs) × (whole_numbers us ≡ whole_numbers vs)
 wholes_trio R [] [] [] h = (refl, refl)
 wholes_trio R (a ∷ as') (b ∷ bs) (c ∷ cs) h =
-    let p : (whole b ≡ whole a) × (whole c ≡ whole a) = whole_trio R a b c h.0 in
-    let q : (wholes bs ≡ wholes as') × (wholes cs ≡ wholes as') = wholes_trio R as' bs cs h.1 in
+    let p : (whole_number b ≡ whole_number a) × (whole_number c ≡ whole_number a) = whole_trio R a b c h.0 in
+    let q : (whole_numbers bs ≡ whole_numbers as') × (whole_numbers cs ≡ whole_numbers as') = wholes_trio R as' bs cs h.1 in
     (rw (p.0, q.0) refl, rw (p.1, q.1) refl)
 wholes_trio R _ _ _ h = absurd h
 
@@ -208,22 +208,22 @@ pick_value : (R : ℕ → ℕ → ℕ → Type 0) (t : Bool) (a b c d e f : Valu
 pick_value R true a b c d e f h g = h
 pick_value R false a b c d e f h g = g
 
-larger_trio : (R : ℕ → ℕ → ℕ → Type 0) (b : Width) (v w u v' w' u' : Value) → Trio R v w u → Trio R v' w' u' → Outs (Trio R) (larger b v v') (larger b w w') (larger b u u')
+larger_trio : (R : ℕ → ℕ → ℕ → Type 0) (b : Width) (v w u v' w' u' : Value) → Trio R v w u → Trio R v' w' u' → Outs (Trio R) (larger_result b v v') (larger_result b w w') (larger_result b u u')
 larger_trio R b v w u v' w' u' h g =
     let p : (rank b w ≡ rank b v) × (rank b u ≡ rank b v) = rank_trio R b v w u h in
     let q : (rank b w' ≡ rank b v') × (rank b u' ≡ rank b v') = rank_trio R b v' w' u' g in
     rw (p.0, p.1, q.0, q.1) (pick_value R (int_le (rank b v') (rank b v)) v w u v' w' u' h g)
 
-smaller_trio : (R : ℕ → ℕ → ℕ → Type 0) (b : Width) (v w u v' w' u' : Value) → Trio R v w u → Trio R v' w' u' → Outs (Trio R) (smaller b v v') (smaller b w w') (smaller b u u')
+smaller_trio : (R : ℕ → ℕ → ℕ → Type 0) (b : Width) (v w u v' w' u' : Value) → Trio R v w u → Trio R v' w' u' → Outs (Trio R) (smaller_result b v v') (smaller_result b w w') (smaller_result b u u')
 smaller_trio R b v w u v' w' u' h g =
     let p : (rank b w ≡ rank b v) × (rank b u ≡ rank b v) = rank_trio R b v w u h in
     let q : (rank b w' ≡ rank b v') × (rank b u' ≡ rank b v') = rank_trio R b v' w' u' g in
     rw (p.0, p.1, q.0, q.1) (pick_value R (int_le (rank b v) (rank b v')) v w u v' w' u' h g)
 
-absolute_trio : (R : ℕ → ℕ → ℕ → Type 0) → Closed R → (b : Width) (v w u : Value) → Trio R v w u → Outs (Trio R) (absolute b v) (absolute b w) (absolute b u)
+absolute_trio : (R : ℕ → ℕ → ℕ → Type 0) → Closed R → (b : Width) (v w u : Value) → Trio R v w u → Outs (Trio R) (absolute_result b v) (absolute_result b w) (absolute_result b u)
 absolute_trio R k b v w u h =
     let p : (rank b w ≡ rank b v) × (rank b u ≡ rank b v) = rank_trio R b v w u h in
-    rw (p.0, p.1) (pick_found R (int_lt (rank b v) (pos 0)) (negated v) (negated w) (negated u) (Ok v) (Ok w) (Ok u) (negated_trio R k v w u h) h)
+    rw (p.0, p.1) (pick_found R (int_lt (rank b v) (pos 0)) (negation_result v) (negation_result w) (negation_result u) (Ok v) (Ok w) (Ok u) (negated_trio R k v w u h) h)
 
 index_remainder : (R : ℕ → ℕ → ℕ → Type 0) (z : ℤ) (v w u : Value) → Trio R v w u → Outs (Trio R) (remainder (Index z) v) (remainder (Index z) w) (remainder (Index z) u)
 index_remainder R z (Index a) (Index b) (Index c) h = rw (h.0, h.1) (of_index_outs R _)
@@ -268,9 +268,9 @@ two_trio R f k (a ∷ vs) (b ∷ ws) (c ∷ us) h = second_more R f a b c (λ a'
 two_trio R f k _ _ _ h = absurd h
 
 call_trio : (R : ℕ → ℕ → ℕ → Type 0) → Closed R → (b : Width) (f : Fun) (vs ws us : List Value) → Trios R vs ws us → Outs (Trio R) (call_result b f vs) (call_result b f ws) (call_result b f us)
-call_trio R k b Max vs ws us h = two_trio R (larger b) (larger_trio R b) vs ws us h
-call_trio R k b Min vs ws us h = two_trio R (smaller b) (smaller_trio R b) vs ws us h
-call_trio R k b Abs vs ws us h = one_trio R (absolute b) (absolute_trio R k b) vs ws us h
+call_trio R k b Max vs ws us h = two_trio R (larger_result b) (larger_trio R b) vs ws us h
+call_trio R k b Min vs ws us h = two_trio R (smaller_result b) (smaller_trio R b) vs ws us h
+call_trio R k b Abs vs ws us h = one_trio R (absolute_result b) (absolute_trio R k b) vs ws us h
 call_trio R k b Mod vs ws us h = two_trio R remainder (remainder_trio R) vs ws us h
 
 relates_trio : (R : ℕ → ℕ → ℕ → Type 0) (b : Width) (op : RelOp) (v w u v' w' u' : Value) → Trio R v w u → Trio R v' w' u' → (relates b op w w' ≡ relates b op v v') × (relates b op u u' ≡ relates b op v v')
@@ -297,7 +297,7 @@ content_trio R (a ∷ as') (b ∷ bs) (c ∷ cs) (suc p) h = content_trio R as' 
 content_trio R _ _ _ p h = absurd h
 
 pub touching_trio : {A : Type 0} (Q : A → A → A → Type 0) (site : Site) (x : List ℕ) (p : ℕ) (k : AccessKind) (t u v : Traced Cause A)
-    → Tells Q t u v → Tells Q (touching site x p k t) (touching site x p k u) (touching site x p k v)
+    → Tells Q t u v → Tells Q (after_touch site x p k t) (after_touch site x p k u) (after_touch site x p k v)
 touching_trio Q site x p k t u v h = by_test (site.accessed x)
   where
     l : Log
@@ -318,8 +318,8 @@ read_place_trio R site c d e x (Some p) h = read_cell_trio R site x p (content c
 
 read_trio : (R : ℕ → ℕ → ℕ → Type 0) (site : Site) (c d e : Cells) (x : List ℕ) (vs ws us : List Value) → TrioCells R c d e → Trios R vs ws us → Tells (Trio R) (read site c x vs) (read site d x ws) (read site e x us)
 read_trio R site c d e x vs ws us h g =
-    let q : (wholes ws ≡ wholes vs) × (wholes us ≡ wholes vs) = wholes_trio R vs ws us g in
-    rw (q.0, q.1) (read_place_trio R site c d e x (place_of site x (wholes vs)) h)
+    let q : (whole_numbers ws ≡ whole_numbers vs) × (whole_numbers us ≡ whole_numbers vs) = wholes_trio R vs ws us g in
+    rw (q.0, q.1) (read_place_trio R site c d e x (place_of site x (whole_numbers vs)) h)
 
 -- ---- expressions and conditions
 

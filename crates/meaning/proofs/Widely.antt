@@ -21,12 +21,12 @@ use Rattle.meaning.specs.declared.value.Value.TheVariants.{Index, Ring}
 use Rattle.meaning.specs.declared.value.Cause.{Cause}
 use Rattle.meaning.specs.declared.value.TrapAt.{TrapAt}
 use Rattle.meaning.specs.declared.value.IterationCount.{IterationCount}
-use Rattle.meaning.specs.Values.{Found, dual_add, dual_sub, as_dual, converted, whole, wholes, literal_value, binary_result, negated, power_result, remainder, on_one, on_two, larger, smaller, absolute, call_result, compares, relates}
-use Rattle.meaning.specs.Logs.{Log, silence, single, touched, sets, pushes, ends, both, instance, right_side, rounds, turn, iteration, condition, taken, Passage, Traced, pure, lift, after, joined, ◌>>=◌, inside, at_line, at_line_by}
-use Rattle.meaning.specs.Sites.{Cells, pointed, Site, in_turn, in_iteration, place_of, kind_of, word_of}
-use Rattle.meaning.specs.Expressions.{touching, content, read_cell, read_place, read, value_of, values_of, holds}
-use Rattle.meaning.specs.Statements.{Run, noted, stored, saving, put, plain, terms_of, grown, grow_cell, grow, increment, assigned, turns_by, step_value, turns_of, value_at, set_at, setting, turns, private_names, unset_all, unset_log, content_at, private_words, one_turn, Heads, iterations, setting_all, words_of_all, loop_words, further_turns, heads_of, one_iteration, run_turns, run_parallel, chosen, in_arm, run, run_all, run_inner, run_within, run_arms}
-use Rattle.meaning.specs.Widths.{modulus, reduced, reduced_found, reduced_cell, reduced_cells, reduced_out, reduced_log, RunsRespect, RunsRespectWidths}
+use Rattle.meaning.specs.Values.{Found, dual_add, dual_sub, as_dual, as_kind, whole_number, whole_numbers, literal_value, binary_result, negation_result, power_result, remainder, on_one, on_two, larger_result, smaller_result, absolute_result, call_result, compares, relates}
+use Rattle.meaning.specs.Logs.{Log, silence, single, touched, sets, pushes, ends, both, instance, right_side, rounds, turn, iteration, condition, taken, Passage, Traced, pure, lift, after, continuation, ◌>>=◌, inside, at_line, at_line_by}
+use Rattle.meaning.specs.Sites.{Cells, with_tangent, Site, in_turn, in_iteration, place_of, kind_of, word_of}
+use Rattle.meaning.specs.Expressions.{after_touch, content, read_cell, read_place, read, value_of, values_of, holds}
+use Rattle.meaning.specs.Statements.{Run, with_log, store_at, after_push, put, plain_assignment, terms_of, incremented_dual, increment_cell, increment_place, increment, assignment_by, turns_by, step_value, turns_of, value_at, set_at, with_variable, turns, private_names, with_all_unset, unset_log, content_at, private_words, one_turn, Heads, iterations, with_variables, words_of_all, loop_words, further_turns, heads_of, one_iteration, run_turns, run_parallel, choice, in_arm, run, run_all, run_inner, run_within, run_arms}
+use Rattle.meaning.specs.Widths.{modulus, reduced_value, reduced_found, reduced_cell, reduced_cells, reduced_out, reduced_log, RunsRespect, RunsRespectWidths}
 use Rattle.meaning.proofs.Reducing.{Narrow, narrow_8, narrow_16, SameDual, SameValue, dual_same, same_of, as_same, add_duals, sub_duals, binary_same, negated_same, power_same, larger_same, smaller_same, absolute_same, ranks_same}
 
 abbrev Outs : {X A : Type 0} → (A → A → Type 0) → Result A X → Result A X → Type 0
@@ -40,7 +40,7 @@ record Tells {X A : Type 0} (w : Width) (Q : A → A → Type 0) (t u : Traced X
   out : Outs Q t.out u.out
 
 bind_by : {X A B : Type 0} (w : Width) (P : A → A → Type 0) (Q : B → B → Type 0) (l m : Log) (r s : Result A X) (f g : A → Traced X B)
-    → reduced_log w l ≡ reduced_log w m → Outs P r s → ((a b : A) → P a b → Tells w Q (f a) (g b)) → Tells w Q (joined l r f) (joined m s g)
+    → reduced_log w l ≡ reduced_log w m → Outs P r s → ((a b : A) → P a b → Tells w Q (f a) (g b)) → Tells w Q (continuation l r f) (continuation m s g)
 bind_by w P Q l m (Ok a) (Ok b) f g e o k = let h : Tells w Q (f a) (g b) = k a b o in record { log = rw (e, h.log) refl; out = h.out }
 bind_by w P Q l m (Err x) (Err y) f g e o k = record { log = e; out = o }
 bind_by w P Q l m (Ok a) (Err y) f g e o k = absurd o
@@ -74,7 +74,7 @@ line_two w Q line t u h = line_by w Q line t.log u.log t.out u.out h.log h.out
 -- ---- relations
 
 abbrev Like : Width → Value → Value → Type 0
-Like w a b = reduced w a ≡ reduced w b
+Like w a b = reduced_value w a ≡ reduced_value w b
 
 abbrev Likes : Width → List Value → List Value → Type 0
 Likes w [] [] = Unit {0}
@@ -89,21 +89,21 @@ abbrev Equal : {A : Type 0} → A → A → Type 0
 Equal a b = a ≡ b
 
 found : (w : Width) (r s : Found) → reduced_found w r ≡ reduced_found w s → Outs (Like w) r s
-found w (Ok a) (Ok b) e = let q : reduced w a ≡ reduced w b = cc in q
+found w (Ok a) (Ok b) e = let q : reduced_value w a ≡ reduced_value w b = cc in q
 found w (Err x) (Err y) e = let q : x ≡ y = cc in q
 found w (Ok a) (Err y) e = absurd (cc)
 found w (Err x) (Ok b) e = absurd (cc)
 
-whole_two : (w : Width) (a b : Value) → Like w a b → whole a ≡ whole b
+whole_two : (w : Width) (a b : Value) → Like w a b → whole_number a ≡ whole_number b
 whole_two w a b h = by_value a b (same_of w a b h)
   where
-    by_value : (a b : Value) → SameValue w a b → whole a ≡ whole b
+    by_value : (a b : Value) → SameValue w a b → whole_number a ≡ whole_number b
     by_value (Index x) (Index y) g = g
     by_value (Ring d) (Ring e) g = refl
     by_value (Index x) (Ring e) g = absurd g
     by_value (Ring d) (Index y) g = absurd g
 
-wholes_two : (w : Width) (vs us : List Value) → Likes w vs us → wholes vs ≡ wholes us
+wholes_two : (w : Width) (vs us : List Value) → Likes w vs us → whole_numbers vs ≡ whole_numbers us
 wholes_two w [] [] h = refl
 wholes_two w (a ∷ vs) (b ∷ us) h = rw (whole_two w a b h.0, wholes_two w vs us h.1) refl
 wholes_two w [] (b ∷ us) h = absurd h
@@ -119,7 +119,7 @@ content_two w c d p h = content_reduced w c p ∙ ap (λ (s : Cells). content s 
 
 -- ---- expressions
 
-touching_two : {A : Type 0} (w : Width) (Q : A → A → Type 0) (s : Site) (x : List ℕ) (p : ℕ) (k : AccessKind) (t u : Traced Cause A) → Tells w Q t u → Tells w Q (touching s x p k t) (touching s x p k u)
+touching_two : {A : Type 0} (w : Width) (Q : A → A → Type 0) (s : Site) (x : List ℕ) (p : ℕ) (k : AccessKind) (t u : Traced Cause A) → Tells w Q t u → Tells w Q (after_touch s x p k t) (after_touch s x p k u)
 touching_two w Q s x p k t u h = by_test (s.accessed x)
   where
     by_test : (b : Bool) → Tells w Q (if b then after (touched p k) t else t) (if b then after (touched p k) u else u)
@@ -128,7 +128,7 @@ touching_two w Q s x p k t u h = by_test (s.accessed x)
 
 read_cell_two : (w : Width) (s : Site) (x : List ℕ) (p : ℕ) (a b : Option Value) → reduced_cell w a ≡ reduced_cell w b → Tells w (Like w) (read_cell s x p a) (read_cell s x p b)
 read_cell_two w s x p None None h = record { log = refl; out = refl }
-read_cell_two w s x p (Some a) (Some b) h = let q : reduced w a ≡ reduced w b = cc in touching_two w (Like w) s x p Read (pure a) (pure b) (pured w (Like w) a b q)
+read_cell_two w s x p (Some a) (Some b) h = let q : reduced_value w a ≡ reduced_value w b = cc in touching_two w (Like w) s x p Read (pure a) (pure b) (pured w (Like w) a b q)
 read_cell_two w s x p None (Some b) h = absurd (cc)
 read_cell_two w s x p (Some a) None h = absurd (cc)
 
@@ -137,7 +137,7 @@ read_place_two w s c d x None h = record { log = refl; out = refl }
 read_place_two w s c d x (Some p) h = read_cell_two w s x p (content c p) (content d p) (content_two w c d p h)
 
 read_two : (w : Width) (s : Site) (c d : Cells) (x : List ℕ) (vs us : List Value) → LikeCells w c d → Likes w vs us → Tells w (Like w) (read s c x vs) (read s d x us)
-read_two w s c d x vs us h g = rw (wholes_two w vs us g) (read_place_two w s c d x (place_of s x (wholes us)) h)
+read_two w s c d x vs us h g = rw (wholes_two w vs us g) (read_place_two w s c d x (place_of s x (whole_numbers us)) h)
 
 remainder_two : (w : Width) (a b c d : Value) → SameValue w a b → SameValue w c d → reduced_found w (remainder a c) ≡ reduced_found w (remainder b d)
 remainder_two w (Index x) (Index y) (Index z) (Index t) h g = rw (h, g) refl
@@ -171,9 +171,9 @@ two_two w f k (a ∷ c ∷ []) (b ∷ d ∷ g ∷ us) h = absurd h.1.1
 two_two w f k (a ∷ c ∷ e ∷ vs) (b ∷ d ∷ []) h = absurd h.1.1
 
 call_two : (w : Width) → Narrow w → (f : Fun) (vs us : List Value) → Likes w vs us → reduced_found w (call_result w f vs) ≡ reduced_found w (call_result w f us)
-call_two w k Max vs us h = two_two w (larger w) (larger_same w k) vs us h
-call_two w k Min vs us h = two_two w (smaller w) (smaller_same w k) vs us h
-call_two w k Abs vs us h = one_two w (absolute w) (absolute_same w k) vs us h
+call_two w k Max vs us h = two_two w (larger_result w) (larger_same w k) vs us h
+call_two w k Min vs us h = two_two w (smaller_result w) (smaller_same w k) vs us h
+call_two w k Abs vs us h = one_two w (absolute_result w) (absolute_same w k) vs us h
 call_two w k Mod vs us h = two_two w remainder (λ a b c d p q. remainder_two w a b c d (same_of w a b p) (same_of w c d q)) vs us h
 
 mutual
@@ -182,7 +182,7 @@ mutual
   value_two w k (get x ss) s e c d h =
       bind w (Likes w) (Like w) (values_of ss s c) (values_of ss s d) (read s c x) (read s d x) (values_two w k ss s e c d h) (λ vs us g. read_two w s c d x vs us h g)
   value_two w k (minus a) s e c d h =
-      bind w (Like w) (Like w) (value_of a s c) (value_of a s d) _ _ (value_two w k a s e c d h) (λ v u g. lifted w (Like w) (negated v) (negated u) (found w (negated v) (negated u) (negated_same w k v u (same_of w v u g))))
+      bind w (Like w) (Like w) (value_of a s c) (value_of a s d) _ _ (value_two w k a s e c d h) (λ v u g. lifted w (Like w) (negation_result v) (negation_result u) (found w (negation_result v) (negation_result u) (negated_same w k v u (same_of w v u g))))
   value_two w k (binary op a b) s e c d h =
       bind w (Like w) (Like w) (value_of a s c) (value_of a s d) _ _ (value_two w k a s e c d h)
       (λ v u g. bind w (Like w) (Like w) (value_of b s c) (value_of b s d) _ _ (value_two w k b s e c d h)
@@ -218,7 +218,7 @@ holds_two w k (disjunction a b) s e c d h =
 
 word_two : (w : Width) (a b : Option Value) → reduced_cell w a ≡ reduced_cell w b → word_of a % modulus w ≡ word_of b % modulus w
 word_two w None None h = refl
-word_two w (Some a) (Some b) h = let q : reduced w a ≡ reduced w b = cc in by_value a b (same_of w a b q)
+word_two w (Some a) (Some b) h = let q : reduced_value w a ≡ reduced_value w b = cc in by_value a b (same_of w a b q)
   where
     by_value : (a b : Value) → SameValue w a b → word_of (Some a) % modulus w ≡ word_of (Some b) % modulus w
     by_value (Index x) (Index y) g = rw g refl
@@ -228,16 +228,16 @@ word_two w (Some a) (Some b) h = let q : reduced w a ≡ reduced w b = cc in by_
 word_two w None (Some b) h = absurd (cc)
 word_two w (Some a) None h = absurd (cc)
 
-pointed_two : (w : Width) (a b : Value) → Like w a b → reduced_cell w (pointed 0 (Some a)) ≡ reduced_cell w (pointed 0 (Some b))
+pointed_two : (w : Width) (a b : Value) → Like w a b → reduced_cell w (with_tangent 0 (Some a)) ≡ reduced_cell w (with_tangent 0 (Some b))
 pointed_two w a b h = by_value a b (same_of w a b h)
   where
-    by_value : (a b : Value) → SameValue w a b → reduced_cell w (pointed 0 (Some a)) ≡ reduced_cell w (pointed 0 (Some b))
+    by_value : (a b : Value) → SameValue w a b → reduced_cell w (with_tangent 0 (Some a)) ≡ reduced_cell w (with_tangent 0 (Some b))
     by_value (Index x) (Index y) g = rw g refl
     by_value (Ring d) (Ring e) g = rw g.value refl
     by_value (Index x) (Ring e) g = absurd g
     by_value (Ring d) (Index y) g = absurd g
 
-converted_two : (w : Width) (k : Kind) (a b : Value) → Like w a b → Like w (converted k a) (converted k b)
+converted_two : (w : Width) (k : Kind) (a b : Value) → Like w a b → Like w (as_kind k a) (as_kind k b)
 converted_two w kind.Ring a b h = ap Ring (dual_same w (as_dual a) (as_dual b) (as_same w a b (same_of w a b h)))
 converted_two w kind.Index a b h = h
 
@@ -250,10 +250,10 @@ set_two : (w : Width) (c d : Cells) (p : ℕ) (v u : Option Value) → LikeCells
 set_two w c d p v u h g =
     set_reduced w c p v ∙ (ap (λ (s : Cells). slice_set s p (reduced_cell w v)) h ∙ ap (slice_set (reduced_cells w d) p) g) ∙ sym (set_reduced w d p u)
 
-stored_two : (w : Width) (c d : Cells) (p : ℕ) (v u : Value) → LikeCells w c d → Like w v u → Tells w (LikeCells w) (stored c p v) (stored d p u)
+stored_two : (w : Width) (c d : Cells) (p : ℕ) (v u : Value) → LikeCells w c d → Like w v u → Tells w (LikeCells w) (store_at c p v) (store_at d p u)
 stored_two w c d p v u h g = record { log = ap (sets p) (pointed_two w v u g); out = set_two w c d p (Some v) (Some u) h (ap Some g) }
 
-saving_two : (w : Width) (s : Site) (x : List ℕ) (v u : Option Value) (t r : Traced Cause Cells) → reduced_cell w v ≡ reduced_cell w u → Tells w (LikeCells w) t r → Tells w (LikeCells w) (saving s x v t) (saving s x u r)
+saving_two : (w : Width) (s : Site) (x : List ℕ) (v u : Option Value) (t r : Traced Cause Cells) → reduced_cell w v ≡ reduced_cell w u → Tells w (LikeCells w) t r → Tells w (LikeCells w) (after_push s x v t) (after_push s x u r)
 saving_two w s x v u t r g h = by_test (s.pushed x)
   where
     by_test : (b : Bool) → Tells w (LikeCells w) (if b then after (single (pushes (word_of v))) t else t) (if b then after (single (pushes (word_of u))) r else r)
@@ -263,16 +263,16 @@ saving_two w s x v u t r g h = by_test (s.pushed x)
 put_two : (w : Width) (s : Site) (c d : Cells) (x : List ℕ) (v u : Value) (o : Option ℕ) → LikeCells w c d → Like w v u → Tells w (LikeCells w) (put s c x v o) (put s d x u o)
 put_two w s c d x v u None h g = record { log = refl; out = refl }
 put_two w s c d x v u (Some p) h g =
-    let a : Value = converted (kind_of s x) v in
-    let b : Value = converted (kind_of s x) u in
-    touching_two w (LikeCells w) s x p Write (saving s x (content c p) (stored c p a)) (saving s x (content d p) (stored d p b))
-    (saving_two w s x (content c p) (content d p) (stored c p a) (stored d p b) (content_two w c d p h) (stored_two w c d p a b h (converted_two w (kind_of s x) v u g)))
+    let a : Value = as_kind (kind_of s x) v in
+    let b : Value = as_kind (kind_of s x) u in
+    touching_two w (LikeCells w) s x p Write (after_push s x (content c p) (store_at c p a)) (after_push s x (content d p) (store_at d p b))
+    (saving_two w s x (content c p) (content d p) (store_at c p a) (store_at d p b) (content_two w c d p h) (stored_two w c d p a b h (converted_two w (kind_of s x) v u g)))
 
 put_at_two : (w : Width) (s : Site) (c d : Cells) (x : List ℕ) (v u : Value) (vs us : List Value) → LikeCells w c d → Like w v u → Likes w vs us
-    → Tells w (LikeCells w) (put s c x v (place_of s x (wholes vs))) (put s d x u (place_of s x (wholes us)))
-put_at_two w s c d x v u vs us h g gs = rw (wholes_two w vs us gs) (put_two w s c d x v u (place_of s x (wholes us)) h g)
+    → Tells w (LikeCells w) (put s c x v (place_of s x (whole_numbers vs))) (put s d x u (place_of s x (whole_numbers us)))
+put_at_two w s c d x v u vs us h g gs = rw (wholes_two w vs us gs) (put_two w s c d x v u (place_of s x (whole_numbers us)) h g)
 
-plain_two : (w : Width) → Narrow w → (s : Site) → s.width ≡ w → (p : Designator) (a : Expression) (c d : Cells) → LikeCells w c d → Tells w (LikeCells w) (plain s c p a) (plain s d p a)
+plain_two : (w : Width) → Narrow w → (s : Site) → s.width ≡ w → (p : Designator) (a : Expression) (c d : Cells) → LikeCells w c d → Tells w (LikeCells w) (plain_assignment s c p a) (plain_assignment s d p a)
 plain_two w k s e p a c d h =
     bind w (Like w) (LikeCells w) (inside (right_side p.name) (value_of a s c)) (inside (right_side p.name) (value_of a s d)) _ _
     (inside_two w (Like w) (right_side p.name) (value_of a s c) (value_of a s d) (value_two w k a s e c d h))
@@ -295,32 +295,32 @@ pick_two : (w : Width) → Narrow w → (t : Bool) (a b c d : Dual) → SameDual
 pick_two w k true a b c d h g = sub_duals w k a b c d h g
 pick_two w k false a b c d h g = add_duals w k a b c d h g
 
-grown_two : (w : Width) → Narrow w → (rs ts : List (Bool × Dual)) (a b : Dual) → LikeTerms w rs ts → SameDual w a b → SameDual w (grown rs a) (grown ts b)
+grown_two : (w : Width) → Narrow w → (rs ts : List (Bool × Dual)) (a b : Dual) → LikeTerms w rs ts → SameDual w a b → SameDual w (incremented_dual rs a) (incremented_dual ts b)
 grown_two w k [] [] a b h g = g
 grown_two w k (r ∷ rs) (t ∷ ts) a b h g = grown_two w k rs ts _ _ h.2 (rw h.0 (pick_two w k t.0 a b r.1 t.1 g h.1))
 grown_two w k [] (t ∷ ts) a b h g = absurd h
 grown_two w k (r ∷ rs) [] a b h g = absurd h
 
 grow_cell_two : (w : Width) → Narrow w → (s : Site) (c d : Cells) (x : List ℕ) (n : AccessKind) (rs ts : List (Bool × Dual)) (p : ℕ) (v u : Option Value) → LikeCells w c d → LikeTerms w rs ts
-    → reduced_cell w v ≡ reduced_cell w u → Tells w (LikeCells w) (grow_cell s c x n rs p v) (grow_cell s d x n ts p u)
+    → reduced_cell w v ≡ reduced_cell w u → Tells w (LikeCells w) (increment_cell s c x n rs p v) (increment_cell s d x n ts p u)
 grow_cell_two w k s c d x n rs ts p None None h g o = record { log = refl; out = refl }
 grow_cell_two w k s c d x n rs ts p (Some v) (Some u) h g o =
-    let q : reduced w v ≡ reduced w u = cc in
-    let a : Value = Ring (grown rs (as_dual v)) in
-    let b : Value = Ring (grown ts (as_dual u)) in
-    touching_two w (LikeCells w) s x p n (stored c p a) (stored d p b)
-    (stored_two w c d p a b h (ap Ring (dual_same w (grown rs (as_dual v)) (grown ts (as_dual u)) (grown_two w k rs ts (as_dual v) (as_dual u) g (as_same w v u (same_of w v u q))))))
+    let q : reduced_value w v ≡ reduced_value w u = cc in
+    let a : Value = Ring (incremented_dual rs (as_dual v)) in
+    let b : Value = Ring (incremented_dual ts (as_dual u)) in
+    touching_two w (LikeCells w) s x p n (store_at c p a) (store_at d p b)
+    (stored_two w c d p a b h (ap Ring (dual_same w (incremented_dual rs (as_dual v)) (incremented_dual ts (as_dual u)) (grown_two w k rs ts (as_dual v) (as_dual u) g (as_same w v u (same_of w v u q))))))
 grow_cell_two w k s c d x n rs ts p None (Some u) h g o = absurd (cc)
 grow_cell_two w k s c d x n rs ts p (Some v) None h g o = absurd (cc)
 
 grow_two : (w : Width) → Narrow w → (s : Site) (c d : Cells) (x : List ℕ) (n : AccessKind) (rs ts : List (Bool × Dual)) (o : Option ℕ) → LikeCells w c d → LikeTerms w rs ts
-    → Tells w (LikeCells w) (grow s c x n rs o) (grow s d x n ts o)
+    → Tells w (LikeCells w) (increment_place s c x n rs o) (increment_place s d x n ts o)
 grow_two w k s c d x n rs ts None h g = record { log = refl; out = refl }
 grow_two w k s c d x n rs ts (Some p) h g = grow_cell_two w k s c d x n rs ts p (content c p) (content d p) h g (content_two w c d p h)
 
 grow_at_two : (w : Width) → Narrow w → (s : Site) (c d : Cells) (x : List ℕ) (n : AccessKind) (rs ts : List (Bool × Dual)) (vs us : List Value) → LikeCells w c d → LikeTerms w rs ts → Likes w vs us
-    → Tells w (LikeCells w) (grow s c x n rs (place_of s x (wholes vs))) (grow s d x n ts (place_of s x (wholes us)))
-grow_at_two w k s c d x n rs ts vs us h g gs = rw (wholes_two w vs us gs) (grow_two w k s c d x n rs ts (place_of s x (wholes us)) h g)
+    → Tells w (LikeCells w) (increment_place s c x n rs (place_of s x (whole_numbers vs))) (increment_place s d x n ts (place_of s x (whole_numbers us)))
+grow_at_two w k s c d x n rs ts vs us h g gs = rw (wholes_two w vs us gs) (grow_two w k s c d x n rs ts (place_of s x (whole_numbers us)) h g)
 
 increment_two : (w : Width) → Narrow w → (s : Site) → s.width ≡ w → (p : Designator) (rs : List Signed) (n : AccessKind) (c d : Cells) → LikeCells w c d → Tells w (LikeCells w) (increment s c p rs n) (increment s d p rs n)
 increment_two w k s e p rs n c d h =
@@ -330,7 +330,7 @@ increment_two w k s e p rs n c d h =
     (λ vs us gs. grow_at_two w k s c d p.name n as' bs vs us h g gs))
 
 assigned_two : (w : Width) → Narrow w → (s : Site) → s.width ≡ w → (atomic : Bool) (p : Designator) (a : Expression) (o : Option (List Signed)) (c d : Cells) → LikeCells w c d
-    → Tells w (LikeCells w) (assigned s c atomic p a o) (assigned s d atomic p a o)
+    → Tells w (LikeCells w) (assignment_by s c atomic p a o) (assignment_by s d atomic p a o)
 assigned_two w k s e atomic p a None c d h = plain_two w k s e p a c d h
 assigned_two w k s e atomic p a (Some rs) c d h = increment_two w k s e p rs _ c d h
 
@@ -355,9 +355,9 @@ turns_of_two w k first last step s e c d h =
     bind w (Like w) Equal (value_of first s c) (value_of first s d) _ _ (value_two w k first s e c d h)
     (λ v u g. bind w (Like w) Equal (value_of last s c) (value_of last s d) _ _ (value_two w k last s e c d h)
     (λ v' u' g'. bind w (Like w) Equal (step_value step s c) (step_value step s d) _ _ (step_two w k step s e c d h)
-    (λ v'' u'' g''. turns_by_two w (whole v) (whole u) (whole v') (whole u') (whole v'') (whole u'') (whole_two w v u g) (whole_two w v' u' g') (whole_two w v'' u'' g''))))
+    (λ v'' u'' g''. turns_by_two w (whole_number v) (whole_number u) (whole_number v') (whole_number u') (whole_number v'') (whole_number u'') (whole_two w v u g) (whole_two w v' u' g') (whole_two w v'' u'' g''))))
 
-noted_two : (w : Width) (l m : Log) (c d : Cells) → reduced_log w l ≡ reduced_log w m → LikeCells w c d → Tells w (LikeCells w) (noted l c) (noted m d)
+noted_two : (w : Width) (l m : Log) (c d : Cells) → reduced_log w l ≡ reduced_log w m → LikeCells w c d → Tells w (LikeCells w) (with_log l c) (with_log m d)
 noted_two w l m c d e h = record { log = e; out = h }
 
 turns_two : (w : Width) (n : ℕ) (f : ℕ → Run) → ((i : ℕ) → Steady w (f i)) → Steady w (turns n f)
@@ -368,11 +368,11 @@ set_at_two : (w : Width) (o : Option ℕ) (v : Option Value) (c d : Cells) → L
 set_at_two w None v c d h = h
 set_at_two w (Some p) v c d h = set_two w c d p v v h refl
 
-setting_two : (w : Width) (s : Site) (x : List ℕ) (z : ℤ) (f : Run) → Steady w f → Steady w (setting s x z f)
+setting_two : (w : Width) (s : Site) (x : List ℕ) (z : ℤ) (f : Run) → Steady w f → Steady w (with_variable s x z f)
 setting_two w s x z f k c d h =
     after_two w (LikeCells w) _ _ _ _ refl (k _ _ (set_at_two w (place_of s x []) (Some (Index z)) c d h))
 
-unset_two : (w : Width) (s : Site) (xs : List (List ℕ)) (c d : Cells) → LikeCells w c d → LikeCells w (unset_all s xs c) (unset_all s xs d)
+unset_two : (w : Width) (s : Site) (xs : List (List ℕ)) (c d : Cells) → LikeCells w c d → LikeCells w (with_all_unset s xs c) (with_all_unset s xs d)
 unset_two w s [] c d h = h
 unset_two w s (x ∷ xs) c d h = unset_two w s xs _ _ (set_at_two w (place_of s x []) None c d h)
 
@@ -394,11 +394,11 @@ one_turn_two : (w : Width) (s : Site) → s.width ≡ w → (var : List ℕ) (t 
 one_turn_two w s e var t body k i c d h =
     inside_two w (LikeCells w) (turn i) _ _ (setting_two w s var (value_at t i) (body (in_turn s var)) (k (in_turn s var) e) c d h)
 
-setting_all_two : (w : Width) (s : Site) (hs : Heads) (i : ℕ) (f : Run) → Steady w f → Steady w (setting_all s hs i f)
+setting_all_two : (w : Width) (s : Site) (hs : Heads) (i : ℕ) (f : Run) → Steady w f → Steady w (with_variables s hs i f)
 setting_all_two w s [] i f k c d h = k c d h
 setting_all_two w s (x ∷ []) i f k c d h = setting_two w s x.0 (value_at x.1 i) f k c d h
 setting_all_two w s (x ∷ y ∷ hs) i f k c d h =
-    setting_two w s x.0 (value_at x.1 (i / iterations (y ∷ hs))) (setting_all s (y ∷ hs) (i % iterations (y ∷ hs)) f) (setting_all_two w s (y ∷ hs) (i % iterations (y ∷ hs)) f k) c d h
+    setting_two w s x.0 (value_at x.1 (i / iterations (y ∷ hs))) (with_variables s (y ∷ hs) (i % iterations (y ∷ hs)) f) (setting_all_two w s (y ∷ hs) (i % iterations (y ∷ hs)) f k) c d h
 
 further_two : (w : Width) → Narrow w → (o : Option Head) (s : Site) → s.width ≡ w → (c d : Cells) → LikeCells w c d → Tells w Equal (further_turns o s c) (further_turns o s d)
 further_two w k None s e c d h = record { log = refl; out = refl }
@@ -433,10 +433,10 @@ run_parallel_two w s e line directive var tree body k hs c d h =
 
 -- ---- statements
 
-chosen_two : (w : Width) (p q : Bool) (f g : Run) → p ≡ q → Steady w f → Steady w g → (c d : Cells) → LikeCells w c d → Tells w (LikeCells w) (chosen p f g c) (chosen q f g d)
+chosen_two : (w : Width) (p q : Bool) (f g : Run) → p ≡ q → Steady w f → Steady w g → (c d : Cells) → LikeCells w c d → Tells w (LikeCells w) (choice p f g c) (choice q f g d)
 chosen_two w p q f g o k l c d h = rw o (by_test q)
   where
-    by_test : (b : Bool) → Tells w (LikeCells w) (chosen b f g c) (chosen b f g d)
+    by_test : (b : Bool) → Tells w (LikeCells w) (choice b f g c) (choice b f g d)
     by_test true = k c d h
     by_test false = l c d h
 

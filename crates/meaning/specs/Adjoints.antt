@@ -4,14 +4,14 @@ use Rattle.ring_core.specs.Ring.{ring_add, ring_mul}
 use Rattle.meaning.specs.declared.value.Value.{Value}
 use Rattle.meaning.specs.declared.value.Value.TheVariants.{Index, Ring}
 use Rattle.meaning.specs.declared.value.TrapAt.{TrapAt}
-use Rattle.meaning.specs.Sites.{Cells, pointed}
+use Rattle.meaning.specs.Sites.{Cells, with_tangent}
 use Rattle.meaning.specs.Statements.{Run}
 
 -- the cells in a direction, 0 where it has no word
-abbrev pub along : List ℕ → Cells → Cells
-along ts [] = []
-along [] (c ∷ cs) = pointed 0 c ∷ along [] cs
-along (t ∷ ts) (c ∷ cs) = pointed t c ∷ along ts cs
+abbrev pub cells_along : List ℕ → Cells → Cells
+cells_along ts [] = []
+cells_along [] (c ∷ cs) = with_tangent 0 c ∷ cells_along [] cs
+cells_along (t ∷ ts) (c ∷ cs) = with_tangent t c ∷ cells_along ts cs
 
 -- the direction with 1 at place j and 0 elsewhere
 abbrev pub unit : ℕ → List ℕ
@@ -24,15 +24,15 @@ tangent_of (Some (Index z)) = 0
 tangent_of (Some (Ring d)) = d.tangent
 
 -- the ring sum of the words times the tangents, by place
-abbrev pub paired : List ℕ → Cells → ℕ
-paired [] cells = 0
-paired (w ∷ ws) [] = 0
-paired (w ∷ ws) (c ∷ cs) = ring_add (ring_mul w (tangent_of c)) (paired ws cs)
+abbrev pub pairing_of : List ℕ → Cells → ℕ
+pairing_of [] cells = 0
+pairing_of (w ∷ ws) [] = 0
+pairing_of (w ∷ ws) (c ∷ cs) = ring_add (ring_mul w (tangent_of c)) (pairing_of ws cs)
 
-abbrev pub paired_after : List ℕ → Result Cells TrapAt → ℕ
-paired_after seed (Ok cells) = paired seed cells
-paired_after seed (Err t) = 0
+abbrev pub pairing_after : List ℕ → Result Cells TrapAt → ℕ
+pairing_after seed (Ok cells) = pairing_of seed cells
+pairing_after seed (Err t) = 0
 
 -- the adjoint at place j: the seed, which is 0 outside the names that it is given for, times the tangents of the unit direction
 abbrev pub adjoint_at : Run → Cells → List ℕ → ℕ → ℕ
-adjoint_at run cells seed j = paired_after seed (run (along (unit j) cells)).out
+adjoint_at run cells seed j = pairing_after seed (run (cells_along (unit j) cells)).out

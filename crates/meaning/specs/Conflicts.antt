@@ -59,13 +59,13 @@ abbrev pub all_clashes : List Touch → List Clash
 all_clashes [] = []
 all_clashes (a ∷ ts) = clashes_with a ts ++ all_clashes ts
 
-abbrev pub lesser : Clash → Option Clash → Option Clash
-lesser a None = Some a
-lesser a (Some b) = if no_later a b then Some a else Some b
+abbrev pub lesser_clash : Clash → Option Clash → Option Clash
+lesser_clash a None = Some a
+lesser_clash a (Some b) = if no_later a b then Some a else Some b
 
-abbrev pub least : List Clash → Option Clash
-least [] = None
-least (c ∷ cs) = lesser c (least cs)
+abbrev pub least_clash : List Clash → Option Clash
+least_clash [] = None
+least_clash (c ∷ cs) = lesser_clash c (least_clash cs)
 
 abbrev pub conflict : List Touch → Option Clash
-conflict ts = least (all_clashes ts)
+conflict ts = least_clash (all_clashes ts)

@@ -9,25 +9,25 @@ use Rattle.meaning.specs.declared.value.TrapAt.{TrapAt}
 use Rattle.meaning.specs.Sites.{Cells, Site}
 use Rattle.meaning.specs.Statements.{run_all}
 use Rattle.meaning.specs.Sequential.{are_sequential}
-use Rattle.meaning.specs.Adjoints.{along, tangent_of}
-use Rattle.meaning.specs.Logs.{Touch, Event, begins, touches, pushes, ends, traps, events, replayed}
+use Rattle.meaning.specs.Adjoints.{cells_along, tangent_of}
+use Rattle.meaning.specs.Logs.{Touch, Event, begins, touches, pushes, ends, traps, events, replay}
 use Rattle.meaning.specs.Conflicts.{Clash, conflict, Reports}
 
 -- what came out, with tangents 0
 abbrev pub values_out : Result Cells TrapAt → Result Cells TrapAt
-values_out (Ok cells) = Ok (along [] cells)
+values_out (Ok cells) = Ok (cells_along [] cells)
 values_out (Err t) = Err t
 
 -- from cells of equal values, whatever their tangents, runs have equal logs and end with equal values or the same trap
 abbrev pub TangentsAreUnseen : Type 0
 TangentsAreUnseen =
-    (body : Statements) (site : Site) (c d : Cells) → along [] c ≡ along [] d →
+    (body : Statements) (site : Site) (c d : Cells) → cells_along [] c ≡ cells_along [] d →
     ((run_all body site c).log ≡ (run_all body site d).log) × (values_out (run_all body site c).out ≡ values_out (run_all body site d).out)
 
 -- the cells after a run are those before it with the log's stores replayed, tangents aside
 abbrev pub CellsAreReplayed : Type 0
 CellsAreReplayed =
-    (body : Statements) (site : Site) (c d : Cells) → (run_all body site c).out ≡ Ok d → replayed (run_all body site c).log (along [] c) ≡ along [] d
+    (body : Statements) (site : Site) (c d : Cells) → (run_all body site c).out ≡ Ok d → replay (run_all body site c).log (cells_along [] c) ≡ cells_along [] d
 
 -- a run depends on the keys of the cells, the width of data, the kinds of names and the declared names alone: not on the loops around
 -- it, nor on what is pushed or makes touches
@@ -54,11 +54,11 @@ abbrev pub TrapsAreTold : Type 0
 TrapsAreTold = (body : Statements) (site : Site) (c : Cells) → trap_in (events (run_all body site c).log) ≡ trap_of (run_all body site c).out
 
 -- a times one direction and b times another, by place, 0 where a direction has no word
-abbrev pub combined : ℕ → List ℕ → ℕ → List ℕ → List ℕ
-combined a [] b [] = []
-combined a [] b (u ∷ us) = ring_add (ring_mul a 0) (ring_mul b u) ∷ combined a [] b us
-combined a (t ∷ ts) b [] = ring_add (ring_mul a t) (ring_mul b 0) ∷ combined a ts b []
-combined a (t ∷ ts) b (u ∷ us) = ring_add (ring_mul a t) (ring_mul b u) ∷ combined a ts b us
+abbrev pub combination : ℕ → List ℕ → ℕ → List ℕ → List ℕ
+combination a [] b [] = []
+combination a [] b (u ∷ us) = ring_add (ring_mul a 0) (ring_mul b u) ∷ combination a [] b us
+combination a (t ∷ ts) b [] = ring_add (ring_mul a t) (ring_mul b 0) ∷ combination a ts b []
+combination a (t ∷ ts) b (u ∷ us) = ring_add (ring_mul a t) (ring_mul b u) ∷ combination a ts b us
 
 -- the tangents that came out, none of a trap
 abbrev pub tangents_out : Result Cells TrapAt → List ℕ
@@ -69,8 +69,8 @@ tangents_out (Err t) = []
 abbrev pub TangentsAreLinear : Type 0
 TangentsAreLinear =
     (body : Statements) (site : Site) (cells : Cells) (a : ℕ) (ts : List ℕ) (b : ℕ) (us : List ℕ) →
-    tangents_out (run_all body site (along (combined a ts b us) cells)).out
-    ≡ combined a (tangents_out (run_all body site (along ts cells)).out) b (tangents_out (run_all body site (along us cells)).out)
+    tangents_out (run_all body site (cells_along (combination a ts b us) cells)).out
+    ≡ combination a (tangents_out (run_all body site (cells_along ts cells)).out) b (tangents_out (run_all body site (cells_along us cells)).out)
 
 -- the function reports the least clash, and none exactly where there is none
 abbrev pub ConflictIsReported : Type 0

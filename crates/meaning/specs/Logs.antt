@@ -46,14 +46,14 @@ pub data Log : Type 0 where
   both : Log → Log → Log
   within : Passage → Log → Log
 
-abbrev pub begun : Passage → List Event
-begun instance = begins ∷ []
-begun (right_side x) = []
-begun rounds = []
-begun (turn k) = begins ∷ []
-begun (iteration k) = begins ∷ []
-begun (condition m) = []
-begun (taken m) = []
+abbrev pub opening_events : Passage → List Event
+opening_events instance = begins ∷ []
+opening_events (right_side x) = []
+opening_events rounds = []
+opening_events (turn k) = begins ∷ []
+opening_events (iteration k) = begins ∷ []
+opening_events (condition m) = []
+opening_events (taken m) = []
 
 -- the iteration in which a passage's touches are, k being that of the passage around it
 abbrev pub iteration_in : ℕ → Passage → ℕ
@@ -72,7 +72,7 @@ events_in k (single e) = e ∷ []
 events_in k (touched p kind) = touches (record { place = p; iteration = k; kind = kind }) ∷ []
 events_in k (sets p v) = []
 events_in k (both a b) = events_in k a ++ events_in k b
-events_in k (within p a) = begun p ++ events_in (iteration_in k p) a
+events_in k (within p a) = opening_events p ++ events_in (iteration_in k p) a
 
 -- the events of a run; outside parallel loops nothing is touched
 abbrev pub events : Log → List Event
@@ -92,23 +92,23 @@ lift r = record { log = silence; out = r }
 abbrev pub after : {X A : Type 0} → Log → Traced X A → Traced X A
 after l t = record { log = both l t.log; out = t.out }
 
-abbrev pub joined : {X A B : Type 0} → Log → Result A X → (A → Traced X B) → Traced X B
-joined l (Ok a) f = after l (f a)
-joined l (Err x) f = record { log = l; out = Err x }
+abbrev pub continuation : {X A B : Type 0} → Log → Result A X → (A → Traced X B) → Traced X B
+continuation l (Ok a) f = after l (f a)
+continuation l (Err x) f = record { log = l; out = Err x }
 
 -- one run, and another from its value
 infixl 10 ◌>>=◌
 abbrev pub ◌>>=◌ : {X A B : Type 0} → Traced X A → (A → Traced X B) → Traced X B
-t >>= f = joined t.log t.out f
+t >>= f = continuation t.log t.out f
 
 -- what a log tells in order: its events, and the stores between them
 pub data Note : Type 0 where
   tells : Event → Note
   stores : (place : ℕ) → (content : Option Value) → Note
 
-abbrev pub noted_events : List Event → List Note
-noted_events [] = []
-noted_events (e ∷ es) = tells e ∷ noted_events es
+abbrev pub event_notes : List Event → List Note
+event_notes [] = []
+event_notes (e ∷ es) = tells e ∷ event_notes es
 
 abbrev pub notes_in : ℕ → Log → List Note
 notes_in k silence = []
@@ -116,19 +116,19 @@ notes_in k (single e) = tells e ∷ []
 notes_in k (touched p kind) = tells (touches (record { place = p; iteration = k; kind = kind })) ∷ []
 notes_in k (sets p v) = stores p v ∷ []
 notes_in k (both a b) = notes_in k a ++ notes_in k b
-notes_in k (within p a) = noted_events (begun p) ++ notes_in (iteration_in k p) a
+notes_in k (within p a) = event_notes (opening_events p) ++ notes_in (iteration_in k p) a
 
 abbrev pub notes : Log → List Note
 notes l = notes_in 0 l
 
 -- the cells, of ring values without tangents, after what a log tells of stores
-abbrev pub replayed : Log → List (Option Value) → List (Option Value)
-replayed silence cells = cells
-replayed (single e) cells = cells
-replayed (touched p kind) cells = cells
-replayed (sets p v) cells = slice_set cells p v
-replayed (both a b) cells = replayed b (replayed a cells)
-replayed (within p a) cells = replayed a cells
+abbrev pub replay : Log → List (Option Value) → List (Option Value)
+replay silence cells = cells
+replay (single e) cells = cells
+replay (touched p kind) cells = cells
+replay (sets p v) cells = slice_set cells p v
+replay (both a b) cells = replay b (replay a cells)
+replay (within p a) cells = replay a cells
 
 -- as one passage
 abbrev pub inside : {X A : Type 0} → Passage → Traced X A → Traced X A

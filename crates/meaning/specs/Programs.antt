@@ -13,7 +13,7 @@ use Rattle.meaning.specs.declared.value.TrapAt.{TrapAt}
 use Rattle.meaning.specs.Logs.{Traced}
 use Rattle.meaning.specs.Sites.{Key, Cells, Site, opening_site, kind_of, word_of}
 use Rattle.meaning.specs.Statements.{Run, run_all}
-use Rattle.meaning.specs.Adjoints.{along, adjoint_at}
+use Rattle.meaning.specs.Adjoints.{cells_along, adjoint_at}
 
 -- a word as a value of a kind, with tangent 0
 abbrev pub value_of_word : Kind → ℕ → Value
@@ -27,8 +27,8 @@ cells_of site args (k ∷ ks) [] = None ∷ cells_of site args ks []
 cells_of site args (k ∷ ks) (w ∷ ws) = (if has_name k.0 args then Some (value_of_word (kind_of site k.0) w) else None) ∷ cells_of site args ks ws
 
 -- no name's old values are pushed
-abbrev pub unpushed : List ℕ → Bool
-unpushed x = false
+abbrev pub no_pushes : List ℕ → Bool
+no_pushes x = false
 
 -- outside every loop of a program with this layout
 abbrev pub entry_site : Subroutine → List Shape → (List ℕ → Bool) → Site
@@ -36,7 +36,7 @@ entry_site p shapes pushed = opening_site p.decls shapes pushed
 
 -- the cells at a program's entry: the arguments have their words, everything else is unset
 abbrev pub entry_cells : Subroutine → List Shape → List ℕ → Cells
-entry_cells p shapes words = let site = entry_site p shapes unpushed in cells_of site p.args site.keys words
+entry_cells p shapes words = let site = entry_site p shapes no_pushes in cells_of site p.args site.keys words
 
 -- the run of a program's body
 abbrev pub run_of : Subroutine → List Shape → (List ℕ → Bool) → Run
@@ -44,11 +44,11 @@ run_of p shapes pushed = run_all p.body (entry_site p shapes pushed)
 
 -- the meaning of a program: the final cells with the tangents in a direction, and the log
 abbrev pub meaning : Subroutine → List Shape → (List ℕ → Bool) → (words direction : List ℕ) → Traced TrapAt Cells
-meaning p shapes pushed words direction = run_of p shapes pushed (along direction (entry_cells p shapes words))
+meaning p shapes pushed words direction = run_of p shapes pushed (cells_along direction (entry_cells p shapes words))
 
 -- the adjoint at place j for a seed, which has a word for each place
 abbrev pub adjoint_of : Subroutine → List Shape → (words seed : List ℕ) → ℕ → ℕ
-adjoint_of p shapes words seed j = adjoint_at (run_of p shapes unpushed) (entry_cells p shapes words) seed j
+adjoint_of p shapes words seed j = adjoint_at (run_of p shapes no_pushes) (entry_cells p shapes words) seed j
 
 -- the n numbers from one on
 abbrev pub numbers_from : ℕ → ℕ → List ℕ
@@ -61,7 +61,7 @@ words_after n (Err t) = []
 
 -- the words of all places after a program's run, place by place
 abbrev pub final_words : Subroutine → List Shape → (words : List ℕ) → List ℕ
-final_words p shapes words = words_after (length (keys_of shapes)) (meaning p shapes unpushed words []).out
+final_words p shapes words = words_after (length (keys_of shapes)) (meaning p shapes no_pushes words []).out
 
 -- the adjoints of all places, place by place
 abbrev pub adjoint_words : Subroutine → List Shape → (words seed : List ℕ) → List ℕ

@@ -23,10 +23,10 @@ abbrev pub Cells : Type 0
 Cells = List (Option Value)
 
 -- a cell with another tangent, where it is of the ring kind
-abbrev pub pointed : ℕ → Option Value → Option Value
-pointed t None = None
-pointed t (Some (Index z)) = Some (Index z)
-pointed t (Some (Ring d)) = Some (Ring (record { value = d.value; tangent = t }))
+abbrev pub with_tangent : ℕ → Option Value → Option Value
+with_tangent t None = None
+with_tangent t (Some (Index z)) = Some (Index z)
+with_tangent t (Some (Ring d)) = Some (Ring (record { value = d.value; tangent = t }))
 
 abbrev pub width_of : ℕ → Width
 width_of bytes = if nat_eq bytes 1 then W8 else if nat_eq bytes 2 then W16 else W64

@@ -18,69 +18,69 @@ use Rattle.meaning.specs.declared.value.Cause.{Cause}
 use Rattle.meaning.specs.declared.value.Cause.TheVariants.{ZeroDivisor, Bounds, Unset}
 use Rattle.meaning.specs.declared.value.TrapAt.{TrapAt}
 use Rattle.meaning.specs.declared.value.IterationCount.{IterationCount}
-use Rattle.meaning.specs.Values.{dual_add, dual_sub, as_dual, converted, whole, wholes}
+use Rattle.meaning.specs.Values.{dual_add, dual_sub, as_dual, as_kind, whole_number, whole_numbers}
 use Rattle.meaning.specs.Logs.{Log, silence, single, sets, both, pushes, ends, instance, right_side, rounds, turn, iteration, condition, taken, Traced, pure, lift, after, ◌>>=◌, inside, at_line}
-use Rattle.meaning.specs.Sites.{Cells, pointed, Site, in_turn, in_iteration, place_of, kind_of, word_of}
-use Rattle.meaning.specs.Expressions.{touching, content, value_of, values_of, holds}
+use Rattle.meaning.specs.Sites.{Cells, with_tangent, Site, in_turn, in_iteration, place_of, kind_of, word_of}
+use Rattle.meaning.specs.Expressions.{after_touch, content, value_of, values_of, holds}
 
 -- what runs: from where it stands and the cells before, to the cells after
 abbrev pub Run : Type 0
 Run = Cells → Traced TrapAt Cells
 
 -- the cells as they are, with a log
-abbrev pub noted : Log → Run
-noted l cells = record { log = l; out = Ok cells }
+abbrev pub with_log : Log → Run
+with_log l cells = record { log = l; out = Ok cells }
 
 -- ---- assignments
 
 -- a store is told without tangents
 abbrev pub set_log : ℕ → Option Value → Log
-set_log p v = sets p (pointed 0 v)
+set_log p v = sets p (with_tangent 0 v)
 
-abbrev pub stored : Cells → ℕ → Value → Traced Cause Cells
-stored cells p v = record { log = set_log p (Some v); out = Ok (slice_set cells p (Some v)) }
+abbrev pub store_at : Cells → ℕ → Value → Traced Cause Cells
+store_at cells p v = record { log = set_log p (Some v); out = Ok (slice_set cells p (Some v)) }
 
 -- with the old value's word first, where the name's old values are pushed
-abbrev pub saving : {X A : Type 0} → Site → List ℕ → Option Value → Traced X A → Traced X A
-saving site x old t = if site.pushed x then after (single (pushes (word_of old))) t else t
+abbrev pub after_push : {X A : Type 0} → Site → List ℕ → Option Value → Traced X A → Traced X A
+after_push site x old t = if site.pushed x then after (single (pushes (word_of old))) t else t
 
 abbrev pub put : Site → Cells → List ℕ → Value → Option ℕ → Traced Cause Cells
 put site cells x v None = lift (Err (Bounds x))
-put site cells x v (Some p) = touching site x p Write (saving site x (content cells p) (stored cells p (converted (kind_of site x) v)))
+put site cells x v (Some p) = after_touch site x p Write (after_push site x (content cells p) (store_at cells p (as_kind (kind_of site x) v)))
 
 -- the value, the subscripts, the check of bounds, the touch, the old value's word, and the store
-abbrev pub plain : Site → Cells → Designator → Expression → Traced Cause Cells
-plain site cells p e =
+abbrev pub plain_assignment : Site → Cells → Designator → Expression → Traced Cause Cells
+plain_assignment site cells p e =
     inside (right_side p.name) (value_of e site cells) >>=
     (λ v. values_of p.subscripts site cells >>=
-    (λ subscripts. put site cells p.name v (place_of site p.name (wholes subscripts))))
+    (λ subscripts. put site cells p.name v (place_of site p.name (whole_numbers subscripts))))
 
 abbrev pub terms_of : List Signed → Site → Cells → Traced Cause (List (Bool × Dual))
 terms_of [] site cells = pure []
 terms_of (r ∷ rs) site cells = value_of r.1 site cells >>= (λ v. terms_of rs site cells >>= (λ ds. pure ((r.0, as_dual v) ∷ ds)))
 
-abbrev pub grown : List (Bool × Dual) → Dual → Dual
-grown [] d = d
-grown (r ∷ rs) d = grown rs (if r.0 then dual_sub d r.1 else dual_add d r.1)
+abbrev pub incremented_dual : List (Bool × Dual) → Dual → Dual
+incremented_dual [] d = d
+incremented_dual (r ∷ rs) d = incremented_dual rs (if r.0 then dual_sub d r.1 else dual_add d r.1)
 
-abbrev pub grow_cell : Site → Cells → List ℕ → AccessKind → List (Bool × Dual) → ℕ → Option Value → Traced Cause Cells
-grow_cell site cells x kind ds p None = lift (Err (Unset x))
-grow_cell site cells x kind ds p (Some v) = touching site x p kind (stored cells p (Ring (grown ds (as_dual v))))
+abbrev pub increment_cell : Site → Cells → List ℕ → AccessKind → List (Bool × Dual) → ℕ → Option Value → Traced Cause Cells
+increment_cell site cells x kind ds p None = lift (Err (Unset x))
+increment_cell site cells x kind ds p (Some v) = after_touch site x p kind (store_at cells p (Ring (incremented_dual ds (as_dual v))))
 
-abbrev pub grow : Site → Cells → List ℕ → AccessKind → List (Bool × Dual) → Option ℕ → Traced Cause Cells
-grow site cells x kind ds None = lift (Err (Bounds x))
-grow site cells x kind ds (Some p) = grow_cell site cells x kind ds p (content cells p)
+abbrev pub increment_place : Site → Cells → List ℕ → AccessKind → List (Bool × Dual) → Option ℕ → Traced Cause Cells
+increment_place site cells x kind ds None = lift (Err (Bounds x))
+increment_place site cells x kind ds (Some p) = increment_cell site cells x kind ds p (content cells p)
 
 -- the rest terms, the subscripts once, the checks of bounds and of being set, the touch, and the update
 abbrev pub increment : Site → Cells → Designator → List Signed → AccessKind → Traced Cause Cells
 increment site cells p rest kind =
     inside (right_side p.name) (terms_of rest site cells) >>=
     (λ ds. values_of p.subscripts site cells >>=
-    (λ subscripts. grow site cells p.name kind ds (place_of site p.name (wholes subscripts))))
+    (λ subscripts. increment_place site cells p.name kind ds (place_of site p.name (whole_numbers subscripts))))
 
-abbrev pub assigned : Site → Cells → Bool → Designator → Expression → Option (List Signed) → Traced Cause Cells
-assigned site cells atomic p e None = plain site cells p e
-assigned site cells atomic p e (Some rest) = increment site cells p rest (increment_kind atomic (site.pluses p.name))
+abbrev pub assignment_by : Site → Cells → Bool → Designator → Expression → Option (List Signed) → Traced Cause Cells
+assignment_by site cells atomic p e None = plain_assignment site cells p e
+assignment_by site cells atomic p e (Some rest) = increment site cells p rest (increment_kind atomic (site.pluses p.name))
 
 -- ---- loops
 
@@ -97,7 +97,7 @@ abbrev pub turns_of : Expression → Expression → Option Expression → Site �
 turns_of first last step site cells =
     value_of first site cells >>=
     (λ a. value_of last site cells >>=
-    (λ b. step_value step site cells >>= (λ c. turns_by (whole a) (whole b) (whole c))))
+    (λ b. step_value step site cells >>= (λ c. turns_by (whole_number a) (whole_number b) (whole_number c))))
 
 -- the value of the variable in the k-th turn, from 0
 abbrev pub value_at : IterationCount → ℕ → ℤ
@@ -112,8 +112,8 @@ set_log_at None v = silence
 set_log_at (Some p) v = set_log p v
 
 -- the cells with a loop's variable set, and then a run
-abbrev pub setting : Site → List ℕ → ℤ → Run → Run
-setting site var z f cells =
+abbrev pub with_variable : Site → List ℕ → ℤ → Run → Run
+with_variable site var z f cells =
     after (set_log_at (place_of site var []) (Some (Index z))) (f (set_at (place_of site var []) (Some (Index z)) cells))
 
 -- the first n turns
@@ -130,9 +130,9 @@ loop_words t =
 abbrev pub private_names : Site → Directive → List ℕ → Statements → List (List ℕ)
 private_names site directive var body = filter (λ x. is_private (sharing_in var directive body x)) site.declared
 
-abbrev pub unset_all : Site → List (List ℕ) → Cells → Cells
-unset_all site [] cells = cells
-unset_all site (x ∷ xs) cells = unset_all site xs (set_at (place_of site x []) None cells)
+abbrev pub with_all_unset : Site → List (List ℕ) → Cells → Cells
+with_all_unset site [] cells = cells
+with_all_unset site (x ∷ xs) cells = with_all_unset site xs (set_at (place_of site x []) None cells)
 
 abbrev pub unset_log : Site → List (List ℕ) → Log
 unset_log site [] = silence
@@ -151,11 +151,11 @@ private_words site body (x ∷ xs) cells =
 
 -- a turn of a sequential loop
 abbrev pub one_turn : Site → List ℕ → IterationCount → (Site → Run) → ℕ → Run
-one_turn site var t body k cells = inside (turn k) (setting site var (value_at t k) (body (in_turn site var)) cells)
+one_turn site var t body k cells = inside (turn k) (with_variable site var (value_at t k) (body (in_turn site var)) cells)
 
 -- the turns of a sequential loop, and its words
 abbrev pub run_turns : List ℕ → (Site → Run) → Site → IterationCount → Run
-run_turns var body site t cells = turns t.count (one_turn site var t body) cells >>= noted (loop_words t)
+run_turns var body site t cells = turns t.count (one_turn site var t body) cells >>= with_log (loop_words t)
 
 -- ---- parallel loops
 
@@ -170,11 +170,11 @@ iterations (h ∷ []) = h.1.count
 iterations (h ∷ g ∷ hs) = h.1.count * iterations (g ∷ hs)
 
 -- the cells with the loops' variables set for iteration k, and then a run
-abbrev pub setting_all : Site → Heads → ℕ → Run → Run
-setting_all site [] k f = f
-setting_all site (h ∷ []) k f = setting site h.0 (value_at h.1 k) f
-setting_all site (h ∷ g ∷ hs) k f =
-    setting site h.0 (value_at h.1 (k / iterations (g ∷ hs))) (setting_all site (g ∷ hs) (k % iterations (g ∷ hs)) f)
+abbrev pub with_variables : Site → Heads → ℕ → Run → Run
+with_variables site [] k f = f
+with_variables site (h ∷ []) k f = with_variable site h.0 (value_at h.1 k) f
+with_variables site (h ∷ g ∷ hs) k f =
+    with_variable site h.0 (value_at h.1 (k / iterations (g ∷ hs))) (with_variables site (g ∷ hs) (k % iterations (g ∷ hs)) f)
 
 abbrev pub words_of_all : Heads → Log
 words_of_all [] = silence
@@ -194,28 +194,28 @@ abbrev pub one_iteration : Site → Directive → List ℕ → Heads → Stateme
 one_iteration site directive var heads tree body k cells =
     let names = private_names site directive var tree in
     inside (iteration k)
-    (after (unset_log site names) (setting_all site heads k (body (in_iteration site directive var tree)) (unset_all site names cells))
-    >>= (λ c. noted (private_words site tree names c) c))
+    (after (unset_log site names) (with_variables site heads k (body (in_iteration site directive var tree)) (with_all_unset site names cells))
+    >>= (λ c. with_log (private_words site tree names c) c))
 
 -- the iterations of a parallel loop, its end, and its words
 abbrev pub run_parallel : ℕ → Directive → List ℕ → Statements → (Site → Run) → Site → Heads → Run
 run_parallel line directive var tree body site heads cells =
-    inside rounds (turns (iterations heads) (one_iteration site directive var heads tree body) cells) >>= noted (both (single (ends line)) (words_of_all heads))
+    inside rounds (turns (iterations heads) (one_iteration site directive var heads tree body) cells) >>= with_log (both (single (ends line)) (words_of_all heads))
 
 -- ---- statements
 
-abbrev pub chosen : Bool → Run → Run → Run
-chosen true f g = f
-chosen false f g = g
+abbrev pub choice : Bool → Run → Run → Run
+choice true f g = f
+choice false f g = g
 
 -- the statements of an arm, and its number's word
 abbrev pub in_arm : ℕ → Run → Run
-in_arm m f cells = inside (taken m) (f cells >>= noted (single (pushes m)))
+in_arm m f cells = inside (taken m) (f cells >>= with_log (single (pushes m)))
 
 abbrev mutual
   pub run : Statement → Site → Run
   run (assignment line atomic p e) site cells =
-      inside instance (at_line line (assigned site cells atomic p e (increment_terms site.ring p e)))
+      inside instance (at_line line (assignment_by site cells atomic p e (increment_terms site.ring p e)))
   run (branch line arms other) site cells = inside instance (run_arms arms line 0 (run_all other) site cells)
   run (loop line number None var first last step body) site cells =
       inside instance (at_line line (turns_of first last step site cells) >>= (λ t. run_turns var (run_all body) site t cells))
@@ -243,4 +243,4 @@ abbrev mutual
   run_arms no_arms line m other site cells = in_arm m (other site) cells
   run_arms (arm test body arms) line m other site cells =
       inside (condition m) (at_line line (holds test site cells)) >>=
-      (λ p. chosen p (in_arm m (run_all body site)) (run_arms arms line (m + 1) other site) cells)
+      (λ p. choice p (in_arm m (run_all body site)) (run_arms arms line (m + 1) other site) cells)

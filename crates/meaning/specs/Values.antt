@@ -15,7 +15,7 @@ use Rattle.ring_core.specs.declared.ring.Width.TheVariants.{W8, W16, W64}
 use Rattle.ring_core.specs.declared.index.IndexTrap.{IndexTrap}
 use Rattle.ring_core.specs.declared.index.IndexTrap.TheVariants as index_trap
 use Rattle.ring_core.specs.Ring.{ring_add, ring_sub, ring_mul, ring_neg}
-use Rattle.ring_core.specs.Index.{fitted, index_div, index_rem}
+use Rattle.ring_core.specs.Index.{exact_index, index_div, index_rem}
 use Rattle.meaning.specs.declared.value.Dual.{Dual}
 use Rattle.meaning.specs.declared.value.Value.{Value}
 use Rattle.meaning.specs.declared.value.Value.TheVariants.{Index, Ring}
@@ -63,9 +63,9 @@ as_dual (Index z) = record { value = cast_unsigned w64 z; tangent = 0 }
 as_dual (Ring d) = d
 
 -- what a name of a kind holds when it is set to a value
-abbrev pub converted : Kind → Value → Value
-converted kind.Ring v = Ring (as_dual v)
-converted kind.Index v = v
+abbrev pub as_kind : Kind → Value → Value
+as_kind kind.Ring v = Ring (as_dual v)
+as_kind kind.Index v = v
 
 -- a word, which is below 2^64, modulo 2^B as a number in -2^(B-1) .. 2^(B-1)-1
 abbrev pub signed_at : Width → ℕ → ℤ
@@ -86,24 +86,24 @@ ranks w (Ring a) (Index b) = (signed_at w a.value, signed_at w (as_dual (Index b
 ranks w (Ring a) (Ring b) = (signed_at w a.value, signed_at w b.value)
 
 -- the whole number of an index value
-abbrev pub whole : Value → ℤ
-whole (Index z) = z
-whole (Ring d) = pos 0
+abbrev pub whole_number : Value → ℤ
+whole_number (Index z) = z
+whole_number (Ring d) = pos 0
 
-abbrev pub wholes : List Value → List ℤ
-wholes [] = []
-wholes (v ∷ vs) = whole v ∷ wholes vs
+abbrev pub whole_numbers : List Value → List ℤ
+whole_numbers [] = []
+whole_numbers (v ∷ vs) = whole_number v ∷ whole_numbers vs
 
 -- ---- operations
 
 abbrev pub literal_value : ℕ → Kind → Found
-literal_value n kind.Index = of_index (fitted (pos n))
+literal_value n kind.Index = of_index (exact_index (pos n))
 literal_value n kind.Ring = Ok (Ring (record { value = n; tangent = 0 }))
 
 abbrev pub index_result : BinOp → ℤ → ℤ → Found
-index_result Add a b = of_index (fitted (a +ℤ b))
-index_result Sub a b = of_index (fitted (a -ℤ b))
-index_result Mul a b = of_index (fitted (a *ℤ b))
+index_result Add a b = of_index (exact_index (a +ℤ b))
+index_result Sub a b = of_index (exact_index (a -ℤ b))
+index_result Mul a b = of_index (exact_index (a *ℤ b))
 index_result Div a b = of_index (index_div a b)
 
 -- data is never divided
@@ -120,23 +120,23 @@ binary_result op (Index a) (Ring b) = ring_result op (as_dual (Index a)) b
 binary_result op (Ring a) (Index b) = ring_result op a (as_dual (Index b))
 binary_result op (Ring a) (Ring b) = ring_result op a b
 
-abbrev pub negated : Value → Found
-negated (Index a) = of_index (fitted (neg_ℤ a))
-negated (Ring a) = Ok (Ring (dual_neg a))
+abbrev pub negation_result : Value → Found
+negation_result (Index a) = of_index (exact_index (neg_ℤ a))
+negation_result (Ring a) = Ok (Ring (dual_neg a))
 
 abbrev pub power_result : Value → ℕ → Found
-power_result (Index a) n = of_index (fitted (int_pow a n))
+power_result (Index a) n = of_index (exact_index (int_pow a n))
 power_result (Ring a) n = Ok (Ring (dual_pow a n))
 
 -- of one kind; the first at a tie
-abbrev pub larger : Width → Value → Value → Found
-larger w a b = Ok (if int_le (rank w b) (rank w a) then a else b)
+abbrev pub larger_result : Width → Value → Value → Found
+larger_result w a b = Ok (if int_le (rank w b) (rank w a) then a else b)
 
-abbrev pub smaller : Width → Value → Value → Found
-smaller w a b = Ok (if int_le (rank w a) (rank w b) then a else b)
+abbrev pub smaller_result : Width → Value → Value → Found
+smaller_result w a b = Ok (if int_le (rank w a) (rank w b) then a else b)
 
-abbrev pub absolute : Width → Value → Found
-absolute w a = if int_lt (rank w a) (pos 0) then negated a else Ok a
+abbrev pub absolute_result : Width → Value → Found
+absolute_result w a = if int_lt (rank w a) (pos 0) then negation_result a else Ok a
 
 abbrev pub remainder : Value → Value → Found
 remainder (Index a) (Index b) = of_index (index_rem a b)
@@ -155,9 +155,9 @@ on_two f (a ∷ b ∷ []) = f a b
 on_two f (a ∷ b ∷ c ∷ vs) = Err Range
 
 abbrev pub call_result : Width → Fun → List Value → Found
-call_result w Max vs = on_two (larger w) vs
-call_result w Min vs = on_two (smaller w) vs
-call_result w Abs vs = on_one (absolute w) vs
+call_result w Max vs = on_two (larger_result w) vs
+call_result w Min vs = on_two (smaller_result w) vs
+call_result w Abs vs = on_one (absolute_result w) vs
 call_result w Mod vs = on_two remainder vs
 
 abbrev pub compares : RelOp → ℤ → ℤ → Bool

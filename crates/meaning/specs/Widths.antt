@@ -12,7 +12,7 @@ use Rattle.fl_ast.specs.Tree.{Statements}
 use Rattle.meaning.specs.Logs.{Event, begins, touches, pushes, ends, traps, Log, silence, single, touched, sets, both, within}
 use Rattle.meaning.specs.Sites.{Cells, Site}
 use Rattle.meaning.specs.Statements.{run_all}
-use Rattle.meaning.specs.Values.{Found, binary_result, negated, power_result, larger, smaller, absolute, relates}
+use Rattle.meaning.specs.Values.{Found, binary_result, negation_result, power_result, larger_result, smaller_result, absolute_result, relates}
 
 abbrev pub modulus : Width → ℕ
 modulus W8 = 256
@@ -22,17 +22,17 @@ modulus W64 = 18446744073709551616
 abbrev pub reduced_dual : Width → Dual → Dual
 reduced_dual w d = record { value = d.value % modulus w; tangent = d.tangent % modulus w }
 
-abbrev pub reduced : Width → Value → Value
-reduced w (Index z) = Index z
-reduced w (Ring d) = Ring (reduced_dual w d)
+abbrev pub reduced_value : Width → Value → Value
+reduced_value w (Index z) = Index z
+reduced_value w (Ring d) = Ring (reduced_dual w d)
 
 abbrev pub reduced_found : Width → Found → Found
-reduced_found w (Ok v) = Ok (reduced w v)
+reduced_found w (Ok v) = Ok (reduced_value w v)
 reduced_found w (Err c) = Err c
 
 abbrev pub reduced_cell : Width → Option Value → Option Value
 reduced_cell w None = None
-reduced_cell w (Some v) = Some (reduced w v)
+reduced_cell w (Some v) = Some (reduced_value w v)
 
 abbrev pub reduced_cells : Width → Cells → Cells
 reduced_cells w [] = []
@@ -44,13 +44,13 @@ reduced_out w (Err t) = Err t
 
 -- what an operation on data at a width gives depends on what is left of its operands alone
 pub record OperationsRespect (w : Width) : Type 0 where
-  pub binary : (op : BinOp) (a b c d : Value) → reduced w a ≡ reduced w b → reduced w c ≡ reduced w d → reduced_found w (binary_result op a c) ≡ reduced_found w (binary_result op b d)
-  pub negation : (a b : Value) → reduced w a ≡ reduced w b → reduced_found w (negated a) ≡ reduced_found w (negated b)
-  pub power : (a b : Value) (n : ℕ) → reduced w a ≡ reduced w b → reduced_found w (power_result a n) ≡ reduced_found w (power_result b n)
-  pub relation : (op : RelOp) (a b c d : Value) → reduced w a ≡ reduced w b → reduced w c ≡ reduced w d → relates w op a c ≡ relates w op b d
-  pub larger_value : (a b c d : Value) → reduced w a ≡ reduced w b → reduced w c ≡ reduced w d → reduced_found w (larger w a c) ≡ reduced_found w (larger w b d)
-  pub smaller_value : (a b c d : Value) → reduced w a ≡ reduced w b → reduced w c ≡ reduced w d → reduced_found w (smaller w a c) ≡ reduced_found w (smaller w b d)
-  pub absolute_value : (a b : Value) → reduced w a ≡ reduced w b → reduced_found w (absolute w a) ≡ reduced_found w (absolute w b)
+  pub binary : (op : BinOp) (a b c d : Value) → reduced_value w a ≡ reduced_value w b → reduced_value w c ≡ reduced_value w d → reduced_found w (binary_result op a c) ≡ reduced_found w (binary_result op b d)
+  pub negation : (a b : Value) → reduced_value w a ≡ reduced_value w b → reduced_found w (negation_result a) ≡ reduced_found w (negation_result b)
+  pub power : (a b : Value) (n : ℕ) → reduced_value w a ≡ reduced_value w b → reduced_found w (power_result a n) ≡ reduced_found w (power_result b n)
+  pub relation : (op : RelOp) (a b c d : Value) → reduced_value w a ≡ reduced_value w b → reduced_value w c ≡ reduced_value w d → relates w op a c ≡ relates w op b d
+  pub larger_value : (a b c d : Value) → reduced_value w a ≡ reduced_value w b → reduced_value w c ≡ reduced_value w d → reduced_found w (larger_result w a c) ≡ reduced_found w (larger_result w b d)
+  pub smaller_value : (a b c d : Value) → reduced_value w a ≡ reduced_value w b → reduced_value w c ≡ reduced_value w d → reduced_found w (smaller_result w a c) ≡ reduced_found w (smaller_result w b d)
+  pub absolute_value : (a b : Value) → reduced_value w a ≡ reduced_value w b → reduced_found w (absolute_result w a) ≡ reduced_found w (absolute_result w b)
 
 -- at widths below that of a word; at 64 bits nothing is lost
 abbrev pub WidthsAreRespected : Type 0

@@ -1,5 +1,5 @@
 ghost use Rattle.std.specs.Prelude.{◌≡◌, [], ◌∷◌};
-ghost use Rattle.meaning.specs.Values.{dual_add, dual_sub, dual_neg, dual_mul, dual_pow, cause_of, as_dual, converted, rank, whole, literal_value, index_result, ring_result, binary_result, negated, power_result, larger, smaller, absolute, remainder, call_result, compares, ranks as ranks_lem, relates};
+ghost use Rattle.meaning.specs.Values.{dual_add, dual_sub, dual_neg, dual_mul, dual_pow, cause_of, as_dual, as_kind, rank, whole_number, literal_value, index_result, ring_result, binary_result, negation_result, power_result, larger_result, smaller_result, absolute_result, remainder, call_result, compares, ranks as ranks_lem, relates as relates_lem};
 ghost use Rattle.ring_core.specs.declared.ring.Width.TheVariants.{W64};
 ghost use Rattle.meaning.specs.declared.value.Value.{Value};
 
@@ -97,8 +97,8 @@ impl Value {
     }
 
     /// What a name of a kind holds when it is set to this value.
-    pub fn converted(self, kind: Kind) -> Value
-        ensures { result ≡ converted kind self }
+    pub fn as_kind(self, kind: Kind) -> Value
+        ensures { result ≡ as_kind kind self }
     {
         match kind {
             Kind::Ring => Value::Ring(self.as_dual()),
@@ -117,8 +117,8 @@ impl Value {
     }
 
     /// The number of an index value, 0 of a ring value.
-    pub fn whole(&self) -> i32
-        ensures { result ≡ whole self.now }
+    pub fn whole_number(&self) -> i32
+        ensures { result ≡ whole_number self.now }
     {
         match self {
             Value::Index(index) => index.value(),
@@ -127,7 +127,7 @@ impl Value {
     }
 
     pub fn neg(self) -> Result<Value, Cause>
-        ensures { result ≡ negated self }
+        ensures { result ≡ negation_result self }
     {
         match self {
             Value::Index(index) => Ok(Value::Index(index.neg()?)),
@@ -145,7 +145,7 @@ impl Value {
     }
 
     pub fn max(self, other: Value) -> Result<Value, Cause>
-        ensures { result ≡ larger W64 self other }
+        ensures { result ≡ larger_result W64 self other }
     {
         if self.rank() >= other.rank() {
             Ok(self)
@@ -155,7 +155,7 @@ impl Value {
     }
 
     pub fn min(self, other: Value) -> Result<Value, Cause>
-        ensures { result ≡ smaller W64 self other }
+        ensures { result ≡ smaller_result W64 self other }
     {
         if self.rank() <= other.rank() {
             Ok(self)
@@ -165,7 +165,7 @@ impl Value {
     }
 
     pub fn abs(self) -> Result<Value, Cause>
-        ensures { result ≡ absolute W64 self }
+        ensures { result ≡ absolute_result W64 self }
     {
         if self.rank() < 0 {
             self.neg()
@@ -249,7 +249,7 @@ fn on_two(fun: Fun, left: Value, right: Value) -> Result<Value, Cause>
 }
 
 /// The intrinsic's value at its arguments.
-pub fn called(fun: Fun, args: &[Value]) -> Result<Value, Cause>
+pub fn intrinsic(fun: Fun, args: &[Value]) -> Result<Value, Cause>
     ensures { result ≡ call_result W64 fun args.now }
 {
     match args {
@@ -289,8 +289,8 @@ fn compares_by(op: RelOp, left: i64, right: i64) -> bool
 }
 
 /// Whether a relation holds. Ring values are compared by their representatives in -2^63 .. 2^63-1.
-pub fn related(op: RelOp, left: Value, right: Value) -> bool
-    ensures { result ≡ relates W64 op left right }
+pub fn relates(op: RelOp, left: Value, right: Value) -> bool
+    ensures { result ≡ relates_lem W64 op left right }
 {
     let (left, right) = ranks(left, right);
     compares_by(op, left, right)

@@ -5,7 +5,7 @@ mod arithmetic;
 mod laws;
 mod value;
 
-pub use arithmetic::{binary, called, literal, related};
+pub use arithmetic::{binary, intrinsic, literal, relates};
 pub use laws::{
     cells_are_replayed, conflict_is_reported, reports_are_one, runs_go_by_keys,
     runs_respect_widths, sequential_runs_go_by_keys, tangents_are_linear, tangents_are_unseen,

@@ -10,7 +10,7 @@ use Rattle.std.proofs.lemmas.Bool.{and_from, and_parts, lt-ltb}
 use Rattle.std.proofs.lemmas.List.{map-append}
 use Rattle.fl_ast.specs.Tree.{Expressions, Designator}
 use Rattle.resolved.specs.declared.resolved.ResolvedExpr.{ResolvedExpr}
-use Rattle.resolved.specs.Codes.{slot_name, all_of, is_within, are_within}
+use Rattle.resolved.specs.ResolvedExprs.{slot_name, all_of, is_within, are_within}
 
 later : (s : Shape) (es : List Shape) (x : List ℕ) (k : ℕ) (o : Option ℕ) → ((j : ℕ) → o ≡ Some j → slot_name es j ≡ x) → option_map suc o ≡ Some k → slot_name (s ∷ es) k ≡ x
 later s es x k None f e = cc
@@ -54,8 +54,8 @@ all_more (a ∷ bs) b h g =
 pub all_pushed : {A : Type 0} (p : A → Bool) (xs : List A) (x : A) → all_of (map p xs) ≡ true → p x ≡ true → all_of (map p (xs ++ x ∷ [])) ≡ true
 all_pushed p xs x h g = subst (λ (bs : List Bool). all_of bs ≡ true) (sym (map-append p xs (x ∷ []))) (all_more (map p xs) (p x) h g)
 
-pub within_push : (n : ℕ) (codes : List ResolvedExpr) (code : ResolvedExpr) → are_within n codes ≡ true → is_within n code ≡ true → are_within n (codes ++ code ∷ []) ≡ true
-within_push n codes code h g = all_pushed (is_within n) codes code h g
+pub within_push : (n : ℕ) (exprs : List ResolvedExpr) (expr : ResolvedExpr) → are_within n exprs ≡ true → is_within n expr ≡ true → are_within n (exprs ++ expr ∷ []) ≡ true
+within_push n exprs expr h g = all_pushed (is_within n) exprs expr h g
 
 apart_name : (es : List Shape) (k : ℕ) (x : List ℕ) → IsApart x es → k < length es → bytes_eq (slot_name es k) x ≡ false
 apart_name [] k x h l = absurd (omega arith)

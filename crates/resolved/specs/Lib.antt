@@ -1,4 +1,4 @@
-pub mod Codes
+pub mod ResolvedExprs
 pub mod SlotTables
-pub mod Steps
-pub mod Resolves
+pub mod ResolvedStmts
+pub mod ResolveAnswers

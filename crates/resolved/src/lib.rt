@@ -2,11 +2,11 @@
 #![tactic(auto)]
 
 mod resolve;
-mod resolve_steps;
+mod resolve_stmts;
 mod resolved;
 mod slot_table;
 
-pub use resolve::{ResolveError, resolve_expression, resolve_place, resolve_test};
-pub use resolve_steps::{resolve_statement, resolve_statements};
+pub use resolve::{ResolveError, resolve_condition, resolve_expression, resolve_place};
+pub use resolve_stmts::{resolve_statement, resolve_statements};
 pub use resolved::{ResolvedArm, ResolvedCond, ResolvedExpr, ResolvedPlace, ResolvedStmt};
 pub use slot_table::SlotTable;

@@ -1,7 +1,7 @@
 ghost use Rattle.std.specs.Prelude.{◌≡◌, length, map};
 ghost use Rattle.fl_ast.specs.Tree.{expr_tree, expr_trees, place_tree, cond_tree};
-ghost use Rattle.resolved.specs.Codes.{code_back, codes_back, spot_back, test_back, is_within, are_within, is_spot_within, is_test_within, is_placed, are_placed, is_designator_placed, is_condition_placed};
-ghost use Rattle.resolved.specs.Resolves.{Resolves};
+ghost use Rattle.resolved.specs.ResolvedExprs.{expression_back, expressions_back, place_back, condition_back, is_within, are_within, is_place_within, is_condition_within, is_placed, are_placed, is_designator_placed, is_condition_placed};
+ghost use Rattle.resolved.specs.ResolveAnswers.{Resolves};
 ghost use Rattle.resolved.specs.declared.resolve.ResolveError.TheVariants.{Memory as memory};
 
 use crate::resolved::{ResolvedCond, ResolvedExpr, ResolvedPlace};
@@ -35,7 +35,7 @@ pub fn resolve_expression(
     layout: &Layout,
     expr: &Expr,
 ) -> Result<ResolvedExpr, ResolveError>
-    ensures { Resolves (code_back layout.now) (is_within (length layout.now)) (expr_tree expr.now)
+    ensures { Resolves (expression_back layout.now) (is_within (length layout.now)) (expr_tree expr.now)
         (is_placed layout.now (expr_tree expr.now)) result }
 {
     match expr {
@@ -79,7 +79,7 @@ pub fn resolve_place(
     layout: &Layout,
     place: &Place,
 ) -> Result<ResolvedPlace, ResolveError>
-    ensures { Resolves (spot_back layout.now) (is_spot_within (length layout.now)) (place_tree place.now)
+    ensures { Resolves (place_back layout.now) (is_place_within (length layout.now)) (place_tree place.now)
         (is_designator_placed layout.now (place_tree place.now)) result }
 {
     match layout.slot(&place.name) {
@@ -98,24 +98,24 @@ fn resolve_all(
     layout: &Layout,
     exprs: &[Expr],
 ) -> Result<Items<ResolvedExpr>, ResolveError>
-    ensures { Resolves (codes_back layout.now) (are_within (length layout.now)) (expr_trees exprs.now)
+    ensures { Resolves (expressions_back layout.now) (are_within (length layout.now)) (expr_trees exprs.now)
         (are_placed layout.now (expr_trees exprs.now)) result }
 {
     let mut all = Items::new(alloc);
     for expr in exprs {
-        let code = resolve_expression(alloc, layout, expr)?;
-        all.push(code)?;
+        let expr = resolve_expression(alloc, layout, expr)?;
+        all.push(expr)?;
     }
     Ok(all)
 }
 
 /// The condition with each name's slot.
-pub fn resolve_test(
+pub fn resolve_condition(
     alloc: Global,
     layout: &Layout,
     cond: &Cond,
 ) -> Result<ResolvedCond, ResolveError>
-    ensures { Resolves (test_back layout.now) (is_test_within (length layout.now)) (cond_tree cond.now)
+    ensures { Resolves (condition_back layout.now) (is_condition_within (length layout.now)) (cond_tree cond.now)
         (is_condition_placed layout.now (cond_tree cond.now)) result }
 {
     match cond {
@@ -129,17 +129,17 @@ pub fn resolve_test(
             })
         }
         Cond::Not(inner) => {
-            let inner = resolve_test(alloc, layout, inner.get())?;
+            let inner = resolve_condition(alloc, layout, inner.get())?;
             Ok(ResolvedCond::Not(Boxed::new(alloc, inner)?))
         }
         Cond::And(left, right) => {
-            let left = Boxed::new(alloc, resolve_test(alloc, layout, left.get())?)?;
-            let right = Boxed::new(alloc, resolve_test(alloc, layout, right.get())?)?;
+            let left = Boxed::new(alloc, resolve_condition(alloc, layout, left.get())?)?;
+            let right = Boxed::new(alloc, resolve_condition(alloc, layout, right.get())?)?;
             Ok(ResolvedCond::And(left, right))
         }
         Cond::Or(left, right) => {
-            let left = Boxed::new(alloc, resolve_test(alloc, layout, left.get())?)?;
-            let right = Boxed::new(alloc, resolve_test(alloc, layout, right.get())?)?;
+            let left = Boxed::new(alloc, resolve_condition(alloc, layout, left.get())?)?;
+            let right = Boxed::new(alloc, resolve_condition(alloc, layout, right.get())?)?;
             Ok(ResolvedCond::Or(left, right))
         }
     }

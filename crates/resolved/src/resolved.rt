@@ -3,7 +3,7 @@ use fl_base::{Boxed, Items};
 use fl_types::IncrementForm;
 
 /// An expression whose names are slots of a layout.
-#[cycle(code)]
+#[cycle(expr)]
 #[derive(Drop)]
 pub enum ResolvedExpr {
     Lit {
@@ -28,7 +28,7 @@ pub enum ResolvedExpr {
 }
 
 /// An occurrence of the name of a slot.
-#[cycle(code)]
+#[cycle(expr)]
 #[derive(Drop)]
 pub struct ResolvedPlace {
     pub slot: usize,
@@ -49,7 +49,7 @@ pub enum ResolvedCond {
 }
 
 /// A statement outside of parallel loops whose names are slots of a layout.
-#[cycle(step)]
+#[cycle(stmt)]
 #[derive(Drop)]
 pub enum ResolvedStmt {
     /// `form` tells how it adds to its target, where it is an increment.
@@ -77,7 +77,7 @@ pub enum ResolvedStmt {
 }
 
 /// A condition and the statements under it.
-#[cycle(step)]
+#[cycle(stmt)]
 #[derive(Drop)]
 pub struct ResolvedArm {
     pub test: ResolvedCond,

@@ -2,7 +2,7 @@ ghost use Rattle.std.specs.Prelude.{◌≡◌, ◌<◌, length, IfOk};
 ghost use Rattle.fl_types.specs.Sharing.{is_ring_name, is_ring_kind as is_ring_kind_lem};
 ghost use Rattle.resolved.specs.SlotTables.{kind_at, kinds_of, named_kind, table_site, Tabulates};
 ghost use Rattle.meaning.specs.Sites.{kind_of as kind_of_lem};
-ghost use Rattle.resolved.specs.Codes.{slot_name};
+ghost use Rattle.resolved.specs.ResolvedExprs.{slot_name};
 
 use fl_ast::{Decl, Kind, Memory, Name};
 use std::alloc::Global;

@@ -1,6 +1,6 @@
 use Rattle.std.proofs.lemmas.Bool.{and_from}
 use Rattle.resolved.proofs.Slots.{slot_stands, found_some}
-use Rattle.resolved.proofs.resolve_steps.resolve_head.Goals as goal
+use Rattle.resolved.proofs.resolve_stmts.resolve_head.Goals as goal
 
 pub returns : goal.returns
 returns c = (

@@ -11,30 +11,30 @@ use Rattle.resolved.specs.declared.resolved.ResolvedStmt.{ResolvedStmt, fold-Res
 use Rattle.resolved.specs.declared.resolved.ResolvedArm.{ResolvedArm, fold-ResolvedArm}
 use Rattle.resolved.specs.declared.resolved.ResolvedStmt.TheOpen.{ResolvedStmt-F, ResolvedArm-F}
 use Rattle.resolved.specs.SlotTables.{Names, is_ring_in}
-use Rattle.resolved.specs.Codes.{slot_name, code_back, spot_back, test_back, all_of, is_within, is_spot_within, is_test_within, is_placed, is_designator_placed, is_condition_placed}
+use Rattle.resolved.specs.ResolvedExprs.{slot_name, expression_back, place_back, condition_back, all_of, is_within, is_place_within, is_condition_within, is_placed, is_designator_placed, is_condition_placed}
 
 abbrev pub option_back : List Shape → Option ResolvedExpr → Option Expression
 option_back shapes None = None
-option_back shapes (Some code) = Some (code_back shapes code)
+option_back shapes (Some expr) = Some (expression_back shapes expr)
 
-abbrev pub step_level : List Shape → ResolvedStmt-F Statement (Condition × Statements) → Statement
-step_level shapes (ResolvedStmt-F.Assign line atomic target value form) = assignment line atomic (spot_back shapes target) (code_back shapes value)
-step_level shapes (ResolvedStmt-F.If line arms other) = branch line (arms_of arms) (statements_of other)
-step_level shapes (ResolvedStmt-F.Do line number variable first last step body) =
-    loop line number None (slot_name shapes variable) (code_back shapes first) (code_back shapes last) (option_back shapes step) (statements_of body)
+abbrev pub statement_level : List Shape → ResolvedStmt-F Statement (Condition × Statements) → Statement
+statement_level shapes (ResolvedStmt-F.Assign line atomic target value form) = assignment line atomic (place_back shapes target) (expression_back shapes value)
+statement_level shapes (ResolvedStmt-F.If line arms other) = branch line (arms_of arms) (statements_of other)
+statement_level shapes (ResolvedStmt-F.Do line number variable first last step body) =
+    loop line number None (slot_name shapes variable) (expression_back shapes first) (expression_back shapes last) (option_back shapes step) (statements_of body)
 
 abbrev pub arm_level : List Shape → ResolvedArm-F Statement (Condition × Statements) → Condition × Statements
-arm_level shapes a = (test_back shapes a.test, statements_of a.body)
+arm_level shapes a = (condition_back shapes a.test, statements_of a.body)
 
 -- the statement that a resolved one stands for
-abbrev pub step_back : List Shape → ResolvedStmt → Statement
-step_back shapes = fold-ResolvedStmt Statement (Condition × Statements) (step_level shapes) (arm_level shapes)
+abbrev pub statement_back : List Shape → ResolvedStmt → Statement
+statement_back shapes = fold-ResolvedStmt Statement (Condition × Statements) (statement_level shapes) (arm_level shapes)
 
 abbrev pub arm_back : List Shape → ResolvedArm → Condition × Statements
-arm_back shapes = fold-ResolvedArm Statement (Condition × Statements) (step_level shapes) (arm_level shapes)
+arm_back shapes = fold-ResolvedArm Statement (Condition × Statements) (statement_level shapes) (arm_level shapes)
 
-abbrev pub steps_back : List Shape → List ResolvedStmt → Statements
-steps_back shapes steps = statements_of (map (step_back shapes) steps)
+abbrev pub statements_back : List Shape → List ResolvedStmt → Statements
+statements_back shapes stmts = statements_of (map (statement_back shapes) stmts)
 
 abbrev pub arms_back : List Shape → List ResolvedArm → Arms
 arms_back shapes arms = arms_of (map (arm_back shapes) arms)
@@ -53,27 +53,27 @@ same_form _ _ = false
 
 abbrev pub is_option_within : ℕ → Option ResolvedExpr → Bool
 is_option_within n None = true
-is_option_within n (Some code) = is_within n code
+is_option_within n (Some expr) = is_within n expr
 
-abbrev pub step_fit : Names → ResolvedStmt-F Bool Bool → Bool
-step_fit names (ResolvedStmt-F.Assign line atomic target value form) =
-    is_spot_within (length names.0) target && (is_within (length names.0) value && same_form form (form_in names (spot_back names.0 target) (code_back names.0 value)))
-step_fit names (ResolvedStmt-F.If line arms other) = all_of arms && all_of other
-step_fit names (ResolvedStmt-F.Do line number variable first last step body) =
+abbrev pub statement_fit : Names → ResolvedStmt-F Bool Bool → Bool
+statement_fit names (ResolvedStmt-F.Assign line atomic target value form) =
+    is_place_within (length names.0) target && (is_within (length names.0) value && same_form form (form_in names (place_back names.0 target) (expression_back names.0 value)))
+statement_fit names (ResolvedStmt-F.If line arms other) = all_of arms && all_of other
+statement_fit names (ResolvedStmt-F.Do line number variable first last step body) =
     nat_lt variable (length names.0)
     && (is_within (length names.0) first && (is_within (length names.0) last && (is_option_within (length names.0) step && all_of body)))
 
 abbrev pub arm_fit : Names → ResolvedArm-F Bool Bool → Bool
-arm_fit names a = is_test_within (length names.0) a.test && all_of a.body
+arm_fit names a = is_condition_within (length names.0) a.test && all_of a.body
 
 abbrev pub is_fit : Names → ResolvedStmt → Bool
-is_fit names = fold-ResolvedStmt Bool Bool (step_fit names) (arm_fit names)
+is_fit names = fold-ResolvedStmt Bool Bool (statement_fit names) (arm_fit names)
 
 abbrev pub is_arm_fit : Names → ResolvedArm → Bool
-is_arm_fit names = fold-ResolvedArm Bool Bool (step_fit names) (arm_fit names)
+is_arm_fit names = fold-ResolvedArm Bool Bool (statement_fit names) (arm_fit names)
 
 abbrev pub are_fit : Names → List ResolvedStmt → Bool
-are_fit names steps = all_of (map (is_fit names) steps)
+are_fit names stmts = all_of (map (is_fit names) stmts)
 
 abbrev pub are_arms_fit : Names → List ResolvedArm → Bool
 are_arms_fit names arms = all_of (map (is_arm_fit names) arms)

@@ -1,11 +1,11 @@
 ghost use Rattle.std.specs.Prelude.{◌≡◌, ◌<◌, length, true, is_none};
 ghost use Rattle.fl_ast.specs.Tree.{assignment, expr_tree, place_tree, step_tree, stmt_tree, stmt_trees, arm_tree, arm_trees};
-ghost use Rattle.resolved.specs.Codes.{slot_name, code_back, is_within, is_placed};
+ghost use Rattle.resolved.specs.ResolvedExprs.{slot_name, expression_back, is_within, is_placed};
 ghost use Rattle.meaning.specs.Sequential.{is_sequential, are_sequential, are_arms_sequential};
-ghost use Rattle.resolved.specs.Steps.{step_back, steps_back, arm_back, arms_back, option_back, form_in as form_in_lem, is_option_within, is_fit, are_fit, is_arm_fit, are_arms_fit, is_option_placed, is_statement_placed, are_statements_placed, is_arm_placed, are_arms_placed};
-ghost use Rattle.resolved.specs.Resolves.{Resolves, ResolvesStatements, ResolvesHead};
+ghost use Rattle.resolved.specs.ResolvedStmts.{statement_back, statements_back, arm_back, arms_back, option_back, form_in as form_in_lem, is_option_within, is_fit, are_fit, is_arm_fit, are_arms_fit, is_option_placed, is_statement_placed, are_statements_placed, is_arm_placed, are_arms_placed};
+ghost use Rattle.resolved.specs.ResolveAnswers.{Resolves, ResolvesStatements, ResolvesHead};
 
-use crate::resolve::{ResolveError, resolve_expression, resolve_place, resolve_test};
+use crate::resolve::{ResolveError, resolve_condition, resolve_expression, resolve_place};
 use crate::resolved::{ResolvedArm, ResolvedExpr, ResolvedStmt};
 use crate::slot_table::SlotTable;
 use fl_ast::{Arm, Expr, Kind, Name, Place, Stmt};
@@ -34,17 +34,17 @@ fn resolve_assignment(
     target: &Place,
     value: &Expr,
 ) -> Result<ResolvedStmt, ResolveError>
-    ensures { ResolvesStatements (step_back table.now.0) (is_fit table.now) (assignment line atomic (place_tree target.now) (expr_tree value.now)) true
+    ensures { ResolvesStatements (statement_back table.now.0) (is_fit table.now) (assignment line atomic (place_tree target.now) (expr_tree value.now)) true
         (is_statement_placed table.now.0 (assignment line atomic (place_tree target.now) (expr_tree value.now))) result }
 {
-    let code = resolve_expression(alloc, table.layout(), value)?;
-    let spot = resolve_place(alloc, table.layout(), target)?;
-    let form = form_in(table, spot.slot, target, value);
+    let expr = resolve_expression(alloc, table.layout(), value)?;
+    let occurrence = resolve_place(alloc, table.layout(), target)?;
+    let form = form_in(table, occurrence.slot, target, value);
     Ok(ResolvedStmt::Assign {
         line,
         atomic,
-        target: spot,
-        value: code,
+        target: occurrence,
+        value: expr,
         form,
     })
 }
@@ -104,7 +104,7 @@ pub fn resolve_statement(
     table: &SlotTable,
     stmt: &Stmt,
 ) -> Result<ResolvedStmt, ResolveError>
-    ensures { ResolvesStatements (step_back table.now.0) (is_fit table.now) (stmt_tree stmt.now)
+    ensures { ResolvesStatements (statement_back table.now.0) (is_fit table.now) (stmt_tree stmt.now)
         (is_sequential (stmt_tree stmt.now)) (is_statement_placed table.now.0 (stmt_tree stmt.now)) result }
 {
     match stmt {
@@ -164,13 +164,13 @@ pub fn resolve_statements(
     table: &SlotTable,
     stmts: &[Stmt],
 ) -> Result<Items<ResolvedStmt>, ResolveError>
-    ensures { ResolvesStatements (steps_back table.now.0) (are_fit table.now) (stmt_trees stmts.now)
+    ensures { ResolvesStatements (statements_back table.now.0) (are_fit table.now) (stmt_trees stmts.now)
         (are_sequential (stmt_trees stmts.now)) (are_statements_placed table.now.0 (stmt_trees stmts.now)) result }
 {
     let mut all = Items::new(alloc);
     for stmt in stmts {
-        let step = resolve_statement(alloc, table, stmt)?;
-        all.push(step)?;
+        let stmt = resolve_statement(alloc, table, stmt)?;
+        all.push(stmt)?;
     }
     Ok(all)
 }
@@ -197,7 +197,7 @@ fn resolve_arm(alloc: Global, table: &SlotTable, arm: &Arm) -> Result<ResolvedAr
     ensures { ResolvesStatements (arm_back table.now.0) (is_arm_fit table.now) (arm_tree arm.now)
         (are_sequential (arm_tree arm.now).1) (is_arm_placed table.now.0 (arm_tree arm.now)) result }
 {
-    let test = resolve_test(alloc, table.layout(), &arm.test)?;
+    let test = resolve_condition(alloc, table.layout(), &arm.test)?;
     let body = resolve_statements(alloc, table, arm.body.as_slice())?;
     Ok(ResolvedArm { test, body })
 }
