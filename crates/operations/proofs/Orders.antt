@@ -9,7 +9,7 @@ use Rattle.operations.specs.declared.op.Op.{Op}
 use Rattle.operations.specs.declared.op.Op.TheVariants.{Load, Store, Bump, Add}
 use Rattle.operations.specs.Ops.{cell_of, acts, acts_all, Clear, ClearAll, Apart}
 use Rattle.operations.specs.Tree.{Tree, done, ◌giving◌, Played, play, IsPast}
-use Rattle.operations.specs.Order.{in_order, IsDisciplined, alone, rounds, chunk, joint, went, Machine, cells_by, last_by, put, next, step, steps, is_add, start, AllBelow, Follows, FollowsLoad, AllEnded}
+use Rattle.operations.specs.Order.{in_order, IsDisciplined, ops_alone, rounds, chunk, joint_cells, positions_after, Machine, cells_by, last_by, put, next, step, steps, is_add, start, AllBelow, Follows, FollowsLoad, AllEnded}
 use Rattle.operations.proofs.OpLaws.{read_other, read_clear, clear_sym, acts_all-append, move, move_all, apart_right, apart_left, apart_none}
 use Rattle.operations.proofs.Trees.{bind, by_ops, past_all}
 
@@ -30,19 +30,19 @@ in_order-same ops ops' (suc n) h = rw (in_order-same ops ops' n (λ j lt. h j (o
 -- ---- one thread, and each iteration alone
 
 pub record Rounds {A : Type 0} (g : ℕ → Tree A) (n : ℕ) (c : List ℕ) : Type 0 where
-  pub ops : (play (rounds g n) c).ops ≡ in_order (alone g c) n
-  pub cells : (play (rounds g n) c).cells ≡ acts_all (in_order (alone g c) n) c
+  pub ops : (play (rounds g n) c).ops ≡ in_order (ops_alone g c) n
+  pub cells : (play (rounds g n) c).cells ≡ acts_all (in_order (ops_alone g c) n) c
 
-pub rounds_alone : {A : Type 0} (g : ℕ → Tree A) (n : ℕ) (c : List ℕ) → IsDisciplined (alone g c) n → Rounds g n c
+pub rounds_alone : {A : Type 0} (g : ℕ → Tree A) (n : ℕ) (c : List ℕ) → IsDisciplined (ops_alone g c) n → Rounds g n c
 rounds_alone g zero c h = record { ops = refl; cells = refl }
 rounds_alone {A} g (suc n) c h =
     let ih : Rounds g n c = rounds_alone g n c (λ j k a b ne. h j k (omega arith) (omega arith) ne) in
-    let os = in_order (alone g c) n in
-    let clear : Apart (alone g c n) os = apart_before (alone g c n) (alone g c) n (λ j lt. let ne : n ≢ j = omega arith in h n j (omega arith) (omega arith) ne) in
+    let os = in_order (ops_alone g c) n in
+    let clear : Apart (ops_alone g c n) os = apart_before (ops_alone g c n) (ops_alone g c) n (λ j lt. let ne : n ≢ j = omega arith in h n j (omega arith) (omega arith) ne) in
     let p : IsPast (play (g n) c) (play (g n) (acts_all os c)) os = past_all (g n) os c clear in
     let u : Tree (Unit {0}) = g n giving (λ _. done (tt {0})) in
-    let e : (play u (acts_all os c)).ops ≡ alone g c n = ap (λ (r : Played (Unit {0})). r.ops) (bind (g n) (λ _. done (tt {0})) (acts_all os c)) ∙ append-nil _ ∙ p.ops in
-    let all : (play (rounds g (suc n)) c).ops ≡ os ++ alone g c n =
+    let e : (play u (acts_all os c)).ops ≡ ops_alone g c n = ap (λ (r : Played (Unit {0})). r.ops) (bind (g n) (λ _. done (tt {0})) (acts_all os c)) ∙ append-nil _ ∙ p.ops in
+    let all : (play (rounds g (suc n)) c).ops ≡ os ++ ops_alone g c n =
     ap (λ (r : Played (Unit {0})). r.ops) (bind (rounds g n) (λ _. u) c) ∙ ap (λ (d : List ℕ). (play (rounds g n) c).ops ++ (play u d).ops) ih.cells ∙ ap (λ (l : List Op). l ++ (play u (acts_all os c)).ops) ih.ops ∙ ap (λ (l : List Op). os ++ l) e in
     record { ops = all; cells = by_ops (rounds g (suc n)) c ∙ ap (λ (l : List Op). acts_all l c) all }
 
@@ -70,26 +70,26 @@ chunks_disciplined its m first count n h within other j k a b ne =
 
 -- ---- the joint state
 
-joint_same : (ops : ℕ → List Op) (at at' : ℕ → ℕ) (n : ℕ) (c : List ℕ) → ((j : ℕ) → j < n → at' j ≡ at j) → joint ops at' n c ≡ joint ops at n c
+joint_same : (ops : ℕ → List Op) (at at' : ℕ → ℕ) (n : ℕ) (c : List ℕ) → ((j : ℕ) → j < n → at' j ≡ at j) → joint_cells ops at' n c ≡ joint_cells ops at n c
 joint_same ops at at' zero c h = refl
 joint_same ops at at' (suc n) c h = rw (joint_same ops at at' n c (λ j lt. h j (omega arith)), h n (omega arith)) refl
 
-joint_is : (ops : ℕ → List Op) (at : ℕ → ℕ) (n : ℕ) (c : List ℕ) → joint ops at n c ≡ acts_all (in_order (λ j. take (at j) (ops j)) n) c
+joint_is : (ops : ℕ → List Op) (at : ℕ → ℕ) (n : ℕ) (c : List ℕ) → joint_cells ops at n c ≡ acts_all (in_order (λ j. take (at j) (ops j)) n) c
 joint_is ops at zero c = refl
 joint_is ops at (suc n) c = ap (acts_all (take (at n) (ops n))) (joint_is ops at n c) ∙ sym (acts_all-append (in_order (λ j. take (at j) (ops j)) n) (take (at n) (ops n)) c)
 
-pub joint_start : (ops : ℕ → List Op) (n : ℕ) (c : List ℕ) → joint ops (λ _. 0) n c ≡ c
+pub joint_start : (ops : ℕ → List Op) (n : ℕ) (c : List ℕ) → joint_cells ops (λ _. 0) n c ≡ c
 joint_start ops zero c = refl
 joint_start ops (suc n) c = joint_start ops n c
 
 -- at the ends the joint state is what all lists make, one after another
-pub joint_end : (ops : ℕ → List Op) (at : ℕ → ℕ) (n : ℕ) (c : List ℕ) → AllEnded ops at n → joint ops at n c ≡ acts_all (in_order ops n) c
+pub joint_end : (ops : ℕ → List Op) (at : ℕ → ℕ) (n : ℕ) (c : List ℕ) → AllEnded ops at n → joint_cells ops at n c ≡ acts_all (in_order ops n) c
 joint_end ops at n c h = joint_is ops at n c ∙ ap (λ (l : List Op). acts_all l c) (in_order-same (λ j. take (at j) (ops j)) ops n (λ j lt. take_all (at j) (ops j) (h j lt)))
 
-pub went_here : (k : ℕ) (at : ℕ → ℕ) → went k at k ≡ suc (at k)
+pub went_here : (k : ℕ) (at : ℕ → ℕ) → positions_after k at k ≡ suc (at k)
 went_here k at = rw (eq-eqb k k refl) refl
 
-pub went_else : (k : ℕ) (at : ℕ → ℕ) (j : ℕ) → j ≢ k → went k at j ≡ at j
+pub went_else : (k : ℕ) (at : ℕ → ℕ) (j : ℕ) → j ≢ k → positions_after k at j ≡ at j
 went_else k at j ne = rw (ne_eqb j k ne) refl
 
 pub take_next : (os : List Op) (i : ℕ) (o : Op) (rest : List Op) → drop i os ≡ o ∷ rest → take (suc i) os ≡ take i os ++ o ∷ []
@@ -122,18 +122,18 @@ apart_take os (u ∷ us) i (suc j) h = (clear_take os i u h.0, apart_take os us 
 
 -- the next operation of one list is one operation on the joint state
 pub joint_step : (ops : ℕ → List Op) (m n : ℕ) (at : ℕ → ℕ) (k : ℕ) (o : Op) (rest : List Op) (c : List ℕ) → IsDisciplined ops m → n ≤ m → k < n → drop (at k) (ops k) ≡ o ∷ rest
-    → joint ops (went k at) n c ≡ acts o (joint ops at n c)
+    → joint_cells ops (positions_after k at) n c ≡ acts o (joint_cells ops at n c)
 joint_step ops m zero at k o rest c d le lt e = absurd (omega arith)
 joint_step ops m (suc n) at k o rest c d le lt e = dite (ℕ_discrete k n)
     (λ same.
-    let below : joint ops (went k at) n c ≡ joint ops at n c = joint_same ops at (went k at) n c (λ j b. let ne : j ≢ k = omega arith in went_else k at j ne) in
-    let here : went k at n ≡ suc (at n) = subst (λ (i : ℕ). went k at i ≡ suc (at i)) same (went_here k at) in
+    let below : joint_cells ops (positions_after k at) n c ≡ joint_cells ops at n c = joint_same ops at (positions_after k at) n c (λ j b. let ne : j ≢ k = omega arith in went_else k at j ne) in
+    let here : positions_after k at n ≡ suc (at n) = subst (λ (i : ℕ). positions_after k at i ≡ suc (at i)) same (went_here k at) in
     let due : drop (at n) (ops n) ≡ o ∷ rest = subst (λ (i : ℕ). drop (at i) (ops i) ≡ o ∷ rest) same e in
-    rw (below, here, take_next (ops n) (at n) o rest due) (acts_all-append (take (at n) (ops n)) (o ∷ []) (joint ops at n c)))
+    rw (below, here, take_next (ops n) (at n) o rest due) (acts_all-append (take (at n) (ops n)) (o ∷ []) (joint_cells ops at n c)))
     (λ ne.
     let ne' : n ≢ k = λ f. ne (sym f) in
     let clear : ClearAll (take (at n) (ops n)) o = clear_take (ops n) (at n) o (clear_next (ops n) (ops k) (at k) o rest (d n k (omega arith) (omega arith) ne') e) in
-    rw (went_else k at n ne', joint_step ops m n at k o rest c d (omega arith) (omega arith) e) (move (take (at n) (ops n)) o (joint ops at n c) clear))
+    rw (went_else k at n ne', joint_step ops m n at k o rest c d (omega arith) (omega arith) e) (move (take (at n) (ops n)) o (joint_cells ops at n c) clear))
 
 one_still : (u o : Op) (c : List ℕ) → is_add o ≡ false → Clear u o → slice_index (acts u c) (cell_of o) ≡ slice_index c (cell_of o)
 one_still u (Load p) c a h = read_clear p u c (clear_sym u (Load p) h)
@@ -151,7 +151,7 @@ clear_before ops n u h = (before_apart ops n (u ∷ []) (λ j lt. (h j lt, tt)))
 
 -- what a list loads, stores or bumps next has the word that the list alone has made of it
 pub joint_alone : (ops : ℕ → List Op) (m n : ℕ) (at : ℕ → ℕ) (k : ℕ) (o : Op) (rest : List Op) (c : List ℕ) → IsDisciplined ops m → n ≤ m → k < n → drop (at k) (ops k) ≡ o ∷ rest → is_add o ≡ false
-    → slice_index (joint ops at n c) (cell_of o) ≡ slice_index (acts_all (take (at k) (ops k)) c) (cell_of o)
+    → slice_index (joint_cells ops at n c) (cell_of o) ≡ slice_index (acts_all (take (at k) (ops k)) c) (cell_of o)
 joint_alone ops m zero at k o rest c d le lt e a = absurd (omega arith)
 joint_alone ops m (suc n) at k o rest c d le lt e a = dite (ℕ_discrete k n)
     (λ same.
@@ -168,7 +168,7 @@ joint_alone ops m (suc n) at k o rest c d le lt e a = dite (ℕ_discrete k n)
     (λ ne.
     let ne' : n ≢ k = λ f. ne (sym f) in
     let clear : ClearAll (take (at n) (ops n)) o = clear_take (ops n) (at n) o (clear_next (ops n) (ops k) (at k) o rest (d n k (omega arith) (omega arith) ne') e) in
-    still (take (at n) (ops n)) o (joint ops at n c) a clear ∙ joint_alone ops m n at k o rest c d (omega arith) (omega arith) e a)
+    still (take (at n) (ops n)) o (joint_cells ops at n c) a clear ∙ joint_alone ops m n at k o rest c d (omega arith) (omega arith) e a)
 
 -- ---- any order of steps
 
@@ -215,7 +215,7 @@ ready_other l c u (Bump p a ∷ os) h r = (r.0 ∙ sym (one_still u (Bump p a) c
 ready_other l c u (Add p a ∷ os) h r = r
 
 record Kept (ops : ℕ → List Op) (n : ℕ) (c : List ℕ) (m : Machine) : Type 0 where
-  cells : m.cells ≡ joint ops m.at n c
+  cells : m.cells ≡ joint_cells ops m.at n c
   ready : (k : ℕ) → k < n → Ready (m.last k) m.cells (drop (m.at k) (ops k))
 
 put_here : (k x : ℕ) (f : ℕ → ℕ) → put k x f k ≡ x
@@ -241,7 +241,7 @@ kept_next ops n c m k (o ∷ rest) d lt e h =
     record {
       cells = same ∙ ap (acts o) h.cells ∙ sym (joint_step ops n n m.at k o rest c d (omega arith) lt e);
       ready = λ j b. dite (ℕ_discrete j k)
-          (λ f. subst (λ i. Ready (put k (last_by o (m.last k) m.cells) m.last i) (cells_by o (m.last k) m.cells) (drop (went k m.at i) (ops i))) (sym f)
+          (λ f. subst (λ i. Ready (put k (last_by o (m.last k) m.cells) m.last i) (cells_by o (m.last k) m.cells) (drop (positions_after k m.at i) (ops i))) (sym f)
           (rw (put_here k (last_by o (m.last k) m.cells) m.last, went_here k m.at, drop_next (ops k) (m.at k) o rest e) (ready_next (m.last k) m.cells o rest mine)))
           (λ ne. rw (put_else k (last_by o (m.last k) m.cells) m.last j ne, went_else k m.at j ne, same)
           (ready_other (m.last j) m.cells o (drop (m.at j) (ops j)) (λ u more f. let ne' : k ≢ j = λ q. ne (sym q) in clear_two (ops k) (ops j) (m.at k) (m.at j) o u rest more (d k j lt b ne') e f) (h.ready j b)));
@@ -253,7 +253,7 @@ kept_steps ops n c (k ∷ ks) m d b h = kept_steps ops n c ks (step ops k m) d b
 
 -- after any steps the cells are the joint state
 pub any_order : (ops : ℕ → List Op) (n : ℕ) (c : List ℕ) (ks : List ℕ) → IsDisciplined ops n → ((k : ℕ) → k < n → Follows (ops k)) → AllBelow n ks
-    → (steps ops ks (start c)).cells ≡ joint ops (steps ops ks (start c)).at n c
+    → (steps ops ks (start c)).cells ≡ joint_cells ops (steps ops ks (start c)).at n c
 any_order ops n c ks d f b = (kept_steps ops n c ks (start c) d b (record { cells = sym (joint_start ops n c); ready = λ k lt. ready_follows 0 c (ops k) (f k lt) })).cells
 
 -- so any steps to the ends make of the cells what all lists make, one after another
