@@ -14,11 +14,14 @@ use meaning::{Cause, Value, binary, intrinsic, literal, relates};
 use resolved::{ResolvedCond, ResolvedExpr, ResolvedPlace, SlotTable};
 use smallvec::SmallVec;
 use std::alloc::{AllocError, AllocFailed, Global};
+use thiserror::Error;
 
 /// Why an evaluation gave no value.
-#[derive(Debug, Drop)]
+#[derive(Debug, Drop, Error)]
 pub enum EvalStop {
+    #[error("an operation has no result")]
     Trap(Cause),
+    #[error("not enough memory")]
     Memory,
 }
 

@@ -20,11 +20,14 @@ use meaning::{Cause, Dual, IterationCount, TrapAt, Value};
 use resolved::{ResolvedCond, ResolvedExpr, ResolvedPlace, ResolvedStmt, SlotTable};
 use ring_core::{Index, Ring};
 use std::alloc::Global;
+use thiserror::Error;
 
 /// Why a run ended early.
-#[derive(Debug, Drop)]
+#[derive(Debug, Drop, Error)]
 pub enum RunStop {
+    #[error("line {}: an operation has no result", .0.line)]
     Trap(TrapAt),
+    #[error("not enough memory")]
     Memory,
 }
 

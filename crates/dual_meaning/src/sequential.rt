@@ -9,17 +9,20 @@ use meaning::{TrapAt, Value};
 use resolved::{ResolveError, SlotTable, resolve_statements};
 use std::alloc::Global;
 use store_core::{Layout, LayoutError};
+use thiserror::Error;
 
 /// Why statements have not run to their end.
-#[derive(Debug, Drop)]
+#[derive(Debug, Drop, Error)]
 pub enum RunError {
+    #[error("line {}: an operation has no result", .0.line)]
     Trap(TrapAt),
-    /// A name has no place in the layout and no declaration.
+    #[error("a name has no place in the layout and no declaration")]
     Unplaced,
-    /// There is a parallel loop among the statements.
+    #[error("there is a parallel loop among the statements")]
     Parallel,
-    /// There are more than 2^20 names without places.
+    #[error("there are more than 2^20 names without places")]
     TooManyPlaces,
+    #[error("not enough memory")]
     Memory,
 }
 

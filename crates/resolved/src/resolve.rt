@@ -9,14 +9,16 @@ use fl_ast::{Cond, Expr, Memory, Place};
 use fl_base::{Boxed, Items};
 use std::alloc::Global;
 use store_core::Layout;
+use thiserror::Error;
 
 /// Why names were not resolved.
-#[derive(Debug, Drop)]
+#[derive(Debug, Drop, Error)]
 pub enum ResolveError {
-    /// A name has no slot in the layout.
+    #[error("a name has no slot in the layout")]
     Unplaced,
-    /// There is a parallel loop among the statements.
+    #[error("there is a parallel loop among the statements")]
     Parallel,
+    #[error("not enough memory")]
     Memory,
 }
 
