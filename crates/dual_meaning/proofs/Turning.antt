@@ -33,7 +33,7 @@ noted_out t l = out_then t (with_log l) ∙ by_out t.out
     by_out (Err x) = refl
 
 pub in_arm_out : (m : ℕ) (f : Run) (c : Cells) → (in_arm m f c).out ≡ (f c).out
-in_arm_out m f c = noted_out (f c) (single (pushes m))
+in_arm_out m f c = noted_out (f c) (single (pushes (Some (Index (pos m)))))
 
 -- an assignment
 pub assignment_run : (names : Names) (line : ℕ) (atomic : Bool) (p : Designator) (e : Expression) (cells : Cells) (form : Option IncrementForm) → same_form form (form_in names p e) ≡ true

@@ -77,11 +77,11 @@ lin_adjoint = refl
 
 -- one statement instance for the loop and one for each pair, and six words
 abbrev pair_told : ℕ → ℕ → ℕ → List Event → List Event
-pair_told k p q es = begins ∷ begins ∷ touches (record { place = p; iteration = k; kind = Read }) ∷ touches (record { place = q; iteration = k; kind = Write }) ∷ pushes 0 ∷ es
+pair_told k p q es = begins ∷ begins ∷ touches (record { place = p; iteration = k; kind = Read }) ∷ touches (record { place = q; iteration = k; kind = Write }) ∷ pushes (word 0) ∷ es
 
 pub lin_events : events (run_all lin site cells).log
     ≡ begins ∷ pair_told 0 1 9 (pair_told 1 2 11 (pair_told 2 3 13 (pair_told 3 4 15 (pair_told 4 5 10 (pair_told 5 6 12 (pair_told 6 7 14 (pair_told 7 8 16
-    (ends 5 ∷ pushes 1 ∷ pushes 2 ∷ pushes 1 ∷ pushes 1 ∷ pushes 4 ∷ pushes 1 ∷ []))))))))
+    (ends 5 ∷ pushes (number 1) ∷ pushes (number 2) ∷ pushes (number 1) ∷ pushes (number 1) ∷ pushes (number 4) ∷ pushes (number 1) ∷ []))))))))
 unfolding exact_index
 lin_events = refl
 

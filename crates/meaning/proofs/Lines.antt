@@ -35,7 +35,7 @@ unfolding exact_index
 poly_adjoint = refl
 
 -- the old value of y is pushed
-pub poly_events : events (run_all poly two_scalars (word 5 ∷ word 7 ∷ [])).log ≡ begins ∷ pushes 7 ∷ []
+pub poly_events : events (run_all poly two_scalars (word 5 ∷ word 7 ∷ [])).log ≡ begins ∷ pushes (word 7) ∷ []
 unfolding exact_index
 poly_events = refl
 

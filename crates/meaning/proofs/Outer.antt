@@ -82,7 +82,7 @@ abbrev touched : List Event → List (ℕ × ℕ × AccessKind)
 touched [] = []
 touched (begins ∷ es) = touched es
 touched (touches a ∷ es) = (a.place, a.iteration, a.kind) ∷ touched es
-touched (pushes w ∷ es) = touched es
+touched (pushes v ∷ es) = touched es
 touched (ends line ∷ es) = touched es
 touched (traps s ∷ es) = touched es
 

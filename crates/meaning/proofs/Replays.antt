@@ -18,7 +18,7 @@ use Rattle.meaning.specs.declared.value.Dual.{Dual}
 use Rattle.meaning.specs.declared.value.IterationCount.{IterationCount}
 use Rattle.meaning.specs.Values.{as_dual, as_kind, whole_number, whole_numbers}
 use Rattle.meaning.specs.Logs.{Log, silence, lift, single, touched, pushes, ends, both, right_side, rounds, condition, Traced, pure, after, continuation, ◌>>=◌, inside, at_line, at_line_by, replay}
-use Rattle.meaning.specs.Sites.{Cells, with_tangent, Site, in_turn, in_iteration, place_of, kind_of, word_of}
+use Rattle.meaning.specs.Sites.{Cells, with_tangent, Site, in_turn, in_iteration, place_of, kind_of}
 use Rattle.meaning.specs.Expressions.{after_touch, content, read_cell, read_place, read, value_of, values_of, holds}
 use Rattle.meaning.specs.Statements.{Run, with_log, store_at, after_push, put, plain_assignment, terms_of, incremented_dual, increment_cell, increment_place, increment, assignment_by, turns_by, step_value, turns_of, value_at, set_at, set_log_at, with_variable, turns, loop_words, private_names, with_all_unset, unset_log, content_at, private_words, one_turn, Heads, iterations, with_variables, words_of_all, further_turns, heads_of, one_iteration, run_turns, run_parallel, choice, in_arm, run, run_all, run_inner, run_within, run_arms}
 use Rattle.meaning.specs.Adjoints.{cells_along}
@@ -115,7 +115,7 @@ touching_replays s x p k c t h = by_test (s.accessed x)
 saving_replays : (s : Site) (x : List ℕ) (old : Option Value) (c : Cells) (t : Traced Cause Cells) → Replays c t → Replays c (after_push s x old t)
 saving_replays s x old c t h = by_test (s.pushed x)
   where
-    by_test : (b : Bool) → Replays c (if b then after (single (pushes (word_of old))) t else t)
+    by_test : (b : Bool) → Replays c (if b then after (single (pushes (with_tangent 0 old))) t else t)
     by_test true = h
     by_test false = h
 
@@ -217,7 +217,7 @@ private_words_keep : (s : Site) (body : Statements) (xs : List (List ℕ)) (cell
 private_words_keep s body [] cells c = refl
 private_words_keep s body (x ∷ xs) cells c = ap (replay (private_words s body xs cells)) (by_test (assigns_in x body && s.pushed x)) ∙ private_words_keep s body xs cells c
   where
-    by_test : (b : Bool) → replay (if b then single (pushes (word_of (content_at cells (place_of s x [])))) else silence) c ≡ c
+    by_test : (b : Bool) → replay (if b then single (pushes (with_tangent 0 (content_at cells (place_of s x [])))) else silence) c ≡ c
     by_test true = refl
     by_test false = refl
 
@@ -277,7 +277,7 @@ either_replay true f g h k s = h s
 either_replay false f g h k s = k s
 
 in_arm_replay : (m : ℕ) (f : Run) → Replay f → Replay (in_arm m f)
-in_arm_replay m f h c = then_replays (f c) _ c (h c) (λ b. noted_replays (single (pushes m)) b (λ a. refl))
+in_arm_replay m f h c = then_replays (f c) _ c (h c) (λ b. noted_replays (single (pushes (Some (Index (pos m))))) b (λ a. refl))
 
 mutual
   run_replay : (b : Statement) (s : Site) → Replay (run b s)

@@ -15,7 +15,7 @@ use Rattle.meaning.specs.declared.value.Cause.{Cause}
 use Rattle.meaning.specs.declared.value.IterationCount.{IterationCount}
 use Rattle.meaning.specs.Values.{dual_add, dual_sub, as_dual, as_kind, whole_numbers}
 use Rattle.meaning.specs.Logs.{Log, single, pushes, instance, right_side, rounds, turn, iteration, condition, taken, Passage, Traced, after, inside, at_line, at_line_by}
-use Rattle.meaning.specs.Sites.{Cells, Site, in_turn, in_iteration, place_of, kind_of, word_of}
+use Rattle.meaning.specs.Sites.{Cells, with_tangent, Site, in_turn, in_iteration, place_of, kind_of}
 use Rattle.meaning.specs.Expressions.{content, value_of, values_of}
 use Rattle.meaning.specs.Statements.{Run, with_log, set_log, store_at, after_push, put, plain_assignment, terms_of, incremented_dual, increment_cell, increment_place, increment, assignment_by, turns_by, step_value, turns_of, value_at, set_at, with_variable, turns, private_names, with_all_unset, unset_log, content_at, private_words, one_turn, Heads, iterations, with_variables, further_turns, heads_of, one_iteration, run_turns, run_parallel, choice, in_arm, run, run_all, run_inner, run_within, run_arms}
 use Rattle.meaning.proofs.Trios.{Closed, Duals, Trio, Trios, Outs, Tells, Equals, TrioCell, TrioCells, bind, pured, dual_trio, add_duals, sub_duals, whole_trio, wholes_trio, content_trio, touching_trio, value_trio, values_trio, holds_trio}
@@ -54,15 +54,16 @@ set_log_trio R p (Index x) (Index y) (Index z) h = (rw h.0 refl, rw h.1 refl)
 set_log_trio R p (Ring a) (Ring b) (Ring c) h = (rw h.second refl, rw h.third refl)
 set_log_trio R p _ _ _ h = absurd h
 
-word_trio : (R : ℕ → ℕ → ℕ → Type 0) (v w u : Value) → Trio R v w u → (word_of (Some w) ≡ word_of (Some v)) × (word_of (Some u) ≡ word_of (Some v))
-word_trio R (Index x) (Index y) (Index z) h = (rw h.0 refl, rw h.1 refl)
-word_trio R (Ring a) (Ring b) (Ring c) h = (h.second, h.third)
-word_trio R _ _ _ h = absurd h
+value_content_trio : (R : ℕ → ℕ → ℕ → Type 0) (v w u : Value) → Trio R v w u → (with_tangent 0 (Some w) ≡ with_tangent 0 (Some v)) × (with_tangent 0 (Some u) ≡ with_tangent 0 (Some v))
+value_content_trio R (Index x) (Index y) (Index z) h = (rw h.0 refl, rw h.1 refl)
+value_content_trio R (Ring a) (Ring b) (Ring c) h = (rw h.second refl, rw h.third refl)
+value_content_trio R _ _ _ h = absurd h
 
-cell_word_trio : (R : ℕ → ℕ → ℕ → Type 0) (v w u : Option Value) → TrioCell R v w u → (word_of w ≡ word_of v) × (word_of u ≡ word_of v)
-cell_word_trio R None None None h = (refl, refl)
-cell_word_trio R (Some v) (Some w) (Some u) h = word_trio R v w u h
-cell_word_trio R _ _ _ h = absurd h
+-- contents without tangents are equal
+told_trio : (R : ℕ → ℕ → ℕ → Type 0) (v w u : Option Value) → TrioCell R v w u → (with_tangent 0 w ≡ with_tangent 0 v) × (with_tangent 0 u ≡ with_tangent 0 v)
+told_trio R None None None h = (refl, refl)
+told_trio R (Some v) (Some w) (Some u) h = value_content_trio R v w u h
+told_trio R _ _ _ h = absurd h
 
 converted_trio : (R : ℕ → ℕ → ℕ → Type 0) → Closed R → (s : Kind) (v w u : Value) → Trio R v w u → Trio R (as_kind s v) (as_kind s w) (as_kind s u)
 converted_trio R k kind.Ring v w u h = dual_trio R k v w u h
@@ -77,11 +78,11 @@ saving_trio : (R : ℕ → ℕ → ℕ → Type 0) (site : Site) (x : List ℕ) 
     → Tells (TrioCells R) (after_push site x v s) (after_push site x w t) (after_push site x u r)
 saving_trio R site x v w u s t r g h = by_test (site.pushed x)
   where
-    q : (word_of w ≡ word_of v) × (word_of u ≡ word_of v)
-    q = cell_word_trio R v w u g
+    q : (with_tangent 0 w ≡ with_tangent 0 v) × (with_tangent 0 u ≡ with_tangent 0 v)
+    q = told_trio R v w u g
 
-    by_test : (b : Bool) → Tells (TrioCells R) (if b then after (single (pushes (word_of v))) s else s) (if b then after (single (pushes (word_of w))) t else t) (if b then after (single (pushes (word_of u))) r else r)
-    by_test true = rw (q.0, q.1) (after_trio (TrioCells R) (single (pushes (word_of v))) s t r h)
+    by_test : (b : Bool) → Tells (TrioCells R) (if b then after (single (pushes (with_tangent 0 v))) s else s) (if b then after (single (pushes (with_tangent 0 w))) t else t) (if b then after (single (pushes (with_tangent 0 u))) r else r)
+    by_test true = rw (q.0, q.1) (after_trio (TrioCells R) (single (pushes (with_tangent 0 v))) s t r h)
     by_test false = h
 
 put_trio : (R : ℕ → ℕ → ℕ → Type 0) → Closed R → (site : Site) (c d e : Cells) (x : List ℕ) (v w u : Value) (o : Option ℕ) → TrioCells R c d e → Trio R v w u
@@ -204,8 +205,8 @@ private_words_trio : (R : ℕ → ℕ → ℕ → Type 0) (site : Site) (body : 
     → (private_words site body xs d ≡ private_words site body xs c) × (private_words site body xs e ≡ private_words site body xs c)
 private_words_trio R site body [] c d e h = (refl, refl)
 private_words_trio R site body (x ∷ xs) c d e h =
-    let q : (word_of (content_at d (place_of site x [])) ≡ word_of (content_at c (place_of site x []))) × (word_of (content_at e (place_of site x [])) ≡ word_of (content_at c (place_of site x []))) =
-    cell_word_trio R _ _ _ (content_at_trio R c d e (place_of site x []) h) in
+    let q : (with_tangent 0 (content_at d (place_of site x [])) ≡ with_tangent 0 (content_at c (place_of site x []))) × (with_tangent 0 (content_at e (place_of site x [])) ≡ with_tangent 0 (content_at c (place_of site x []))) =
+    told_trio R _ _ _ (content_at_trio R c d e (place_of site x []) h) in
     let r : (private_words site body xs d ≡ private_words site body xs c) × (private_words site body xs e ≡ private_words site body xs c) = private_words_trio R site body xs c d e h in
     (rw (q.0, r.0) refl, rw (q.1, r.1) refl)
 

@@ -1,5 +1,5 @@
 -- Runs of statements without parallel loops at two sites with the same keys and kinds.
-use Rattle.std.specs.Prelude.{◌≡◌, ℕ, zero, suc, ◌+◌, ℤ, Bool, true, false, if◌then◌else◌, List, [], ◌∷◌, Option, Some, None, Result, Ok, Err, slice_set, refl}
+use Rattle.std.specs.Prelude.{◌≡◌, ℕ, zero, suc, ◌+◌, ℤ, pos, Bool, true, false, if◌then◌else◌, List, [], ◌∷◌, Option, Some, None, Result, Ok, Err, slice_set, refl}
 use Rattle.std.proofs.Common.{ap, sym, ◌∙◌}
 use Rattle.std.proofs.lemmas.Bool.{and_parts}
 use Rattle.fl_ast.specs.declared.kind.Kind.TheVariants as kind
@@ -16,7 +16,7 @@ use Rattle.meaning.specs.declared.value.Cause.{Cause}
 use Rattle.meaning.specs.declared.value.IterationCount.{IterationCount}
 use Rattle.meaning.specs.Values.{as_dual, as_kind, whole_numbers}
 use Rattle.meaning.specs.Logs.{single, pushes, right_side, condition, Traced, after, inside, at_line, at_line_by}
-use Rattle.meaning.specs.Sites.{Key, Cells, Site, in_turn, place_of, kind_of, word_of}
+use Rattle.meaning.specs.Sites.{Key, Cells, with_tangent, Site, in_turn, place_of, kind_of}
 use Rattle.meaning.specs.Expressions.{content, value_of, values_of, holds}
 use Rattle.meaning.specs.Statements.{Run, with_log, store_at, after_push, put, plain_assignment, terms_of, incremented_dual, increment_cell, increment_place, increment, assignment_by, step_value, turns_of, value_at, set_at, turns, loop_words, one_turn, choice, in_arm, run, run_all, run_arms}
 use Rattle.meaning.specs.Sequential.{is_sequential, are_sequential, are_arms_sequential}
@@ -41,7 +41,7 @@ same_kind s t x h = ap (λ b. if b then kind.Ring else kind.Index) (h.ring x)
 saving_out : {A : Type 0} (s : Site) (x : List ℕ) (old : Option Value) (t : Traced Cause A) → (after_push s x old t).out ≡ t.out
 saving_out s x old t = by_test (s.pushed x)
   where
-    by_test : (b : Bool) → (if b then after (single (pushes (word_of old))) t else t).out ≡ t.out
+    by_test : (b : Bool) → (if b then after (single (pushes (with_tangent 0 old))) t else t).out ≡ t.out
     by_test true = refl
     by_test false = refl
 
@@ -117,7 +117,7 @@ chosen_agree true f g h k c e d = e
 chosen_agree false f g h k c e d = d
 
 pub in_arm_agree : (m : ℕ) (f g : Run) (c : Cells) → Agree (f c) (g c) → Agree (in_arm m f c) (in_arm m g c)
-in_arm_agree m f g c e = then_agree (f c) (g c) (with_log (single (pushes m))) (with_log (single (pushes m))) e (λ d. refl)
+in_arm_agree m f g c e = then_agree (f c) (g c) (with_log (single (pushes (Some (Index (pos m)))))) (with_log (single (pushes (Some (Index (pos m)))))) e (λ d. refl)
 
 mutual
   run_agree : (b : Statement) → is_sequential b ≡ true → (s t : Site) → Alike s t → (c : Cells) → Agree (run b s c) (run b t c)

@@ -63,11 +63,11 @@ pub one_square : marks (run_all squares (site 1) (number 1 ∷ word 3 ∷ word 1
     ≡ opens instance
     ∷ opens rounds ∷ opens (iteration 0) ∷ stores 4 None ∷ stores 3 (number 1)
     ∷ opens instance ∷ opens (right_side t) ∷ touches_at 1 Read ∷ touches_at 1 Read ∷ closes
-    ∷ tells (pushes 0) ∷ stores 4 (word 9) ∷ closes
+    ∷ tells (pushes None) ∷ stores 4 (word 9) ∷ closes
     ∷ opens instance ∷ opens (right_side y) ∷ closes
     ∷ touches_at 2 Write ∷ stores 2 (word 19) ∷ closes
-    ∷ tells (pushes 9) ∷ closes ∷ closes
-    ∷ tells (ends 5) ∷ tells (pushes 1) ∷ tells (pushes 1) ∷ tells (pushes 1) ∷ closes ∷ []
+    ∷ tells (pushes (word 9)) ∷ closes ∷ closes
+    ∷ tells (ends 5) ∷ tells (pushes (number 1)) ∷ tells (pushes (number 1)) ∷ tells (pushes (number 1)) ∷ closes ∷ []
 unfolding exact_index
 one_square = refl
 
@@ -95,11 +95,11 @@ copy_replayed = refl
 
 -- the touches of an iteration have its number
 pub squares_events : events (run_all squares (site 2) cells).log
-    ≡ begins ∷ begins ∷ begins ∷ touches (record { place = 1; iteration = 0; kind = Read }) ∷ touches (record { place = 1; iteration = 0; kind = Read }) ∷ pushes 0
-    ∷ begins ∷ touches (record { place = 3; iteration = 0; kind = Write }) ∷ pushes 9
-    ∷ begins ∷ begins ∷ touches (record { place = 2; iteration = 1; kind = Read }) ∷ touches (record { place = 2; iteration = 1; kind = Read }) ∷ pushes 0
-    ∷ begins ∷ touches (record { place = 4; iteration = 1; kind = Write }) ∷ pushes 25
-    ∷ ends 5 ∷ pushes 1 ∷ pushes 2 ∷ pushes 1 ∷ []
+    ≡ begins ∷ begins ∷ begins ∷ touches (record { place = 1; iteration = 0; kind = Read }) ∷ touches (record { place = 1; iteration = 0; kind = Read }) ∷ pushes None
+    ∷ begins ∷ touches (record { place = 3; iteration = 0; kind = Write }) ∷ pushes (word 9)
+    ∷ begins ∷ begins ∷ touches (record { place = 2; iteration = 1; kind = Read }) ∷ touches (record { place = 2; iteration = 1; kind = Read }) ∷ pushes None
+    ∷ begins ∷ touches (record { place = 4; iteration = 1; kind = Write }) ∷ pushes (word 25)
+    ∷ ends 5 ∷ pushes (number 1) ∷ pushes (number 2) ∷ pushes (number 1) ∷ []
 unfolding exact_index
 squares_events = refl
 

@@ -120,6 +120,6 @@ dot_conflict = refl
 pub dot_events :
     events (run_all (dot reducing) summing (number 1 ∷ word 1 ∷ word 2 ∷ word 3 ∷ word 5 ∷ None ∷ [])).log
     ≡ begins ∷ begins ∷ begins ∷ touches (record { place = 1; iteration = 0; kind = Read }) ∷ touches (record { place = 1; iteration = 0; kind = Read })
-    ∷ touches (record { place = 4; iteration = 0; kind = Update }) ∷ ends 5 ∷ pushes 1 ∷ pushes 1 ∷ pushes 1 ∷ []
+    ∷ touches (record { place = 4; iteration = 0; kind = Update }) ∷ ends 5 ∷ pushes (number 1) ∷ pushes (number 1) ∷ pushes (number 1) ∷ []
 unfolding exact_index
 dot_events = refl

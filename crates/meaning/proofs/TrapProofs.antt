@@ -18,7 +18,7 @@ use Rattle.meaning.specs.declared.value.Dual.{Dual}
 use Rattle.meaning.specs.declared.value.IterationCount.{IterationCount}
 use Rattle.meaning.specs.Values.{as_dual, as_kind, whole_number, whole_numbers}
 use Rattle.meaning.specs.Logs.{Log, silence, lift, single, touched, pushes, ends, both, right_side, rounds, condition, Traced, pure, after, continuation, ◌>>=◌, inside, at_line, at_line_by, Event, begins, traps, touches, events_in}
-use Rattle.meaning.specs.Sites.{Cells, Site, in_turn, in_iteration, place_of, kind_of, word_of}
+use Rattle.meaning.specs.Sites.{Cells, with_tangent, Site, in_turn, in_iteration, place_of, kind_of}
 use Rattle.meaning.specs.Expressions.{after_touch, content, read_cell, read_place, read, value_of, values_of, holds}
 use Rattle.meaning.specs.Statements.{Run, with_log, store_at, after_push, put, plain_assignment, terms_of, incremented_dual, increment_cell, increment_place, increment, assignment_by, turns_by, step_value, turns_of, value_at, set_at, set_log_at, with_variable, turns, private_names, with_all_unset, unset_log, content_at, private_words, one_turn, Heads, iterations, with_variables, words_of_all, further_turns, heads_of, one_iteration, run_turns, run_parallel, choice, in_arm, run, run_all, run_inner, run_within, run_arms}
 use Rattle.meaning.specs.declared.value.TrapAt.{TrapAt}
@@ -120,7 +120,7 @@ holds_keep (disjunction a b) s cells = then_keeps (holds a s cells) _ (holds_kee
 saving_keeps : {X A : Type 0} (s : Site) (x : List ℕ) (old : Option Value) (t : Traced X A) → Keeps t → Keeps (after_push s x old t)
 saving_keeps s x old t h c = by_test (s.pushed x)
   where
-    by_test : (b : Bool) → trap_in (events_in c (if b then after (single (pushes (word_of old))) t else t).log) ≡ None
+    by_test : (b : Bool) → trap_in (events_in c (if b then after (single (pushes (with_tangent 0 old))) t else t).log) ≡ None
     by_test true = h c
     by_test false = h c
 
@@ -202,10 +202,10 @@ unset_none s (x ∷ xs) k = after_none (set_log_at (place_of s x []) None) (unse
 private_none : (s : Site) (body : Statements) (xs : List (List ℕ)) (cells : Cells) → NoTrap (private_words s body xs cells)
 private_none s body [] cells k = refl
 private_none s body (x ∷ xs) cells k =
-    after_none (if assigns_in x body && s.pushed x then single (pushes (word_of (content_at cells (place_of s x [])))) else silence) (private_words s body xs cells) k (by_test (assigns_in x body && s.pushed x))
+    after_none (if assigns_in x body && s.pushed x then single (pushes (with_tangent 0 (content_at cells (place_of s x [])))) else silence) (private_words s body xs cells) k (by_test (assigns_in x body && s.pushed x))
     ∙ private_none s body xs cells k
   where
-    by_test : (b : Bool) → trap_in (events_in k (if b then single (pushes (word_of (content_at cells (place_of s x [])))) else silence)) ≡ None
+    by_test : (b : Bool) → trap_in (events_in k (if b then single (pushes (with_tangent 0 (content_at cells (place_of s x [])))) else silence)) ≡ None
     by_test true = refl
     by_test false = refl
 
@@ -267,7 +267,7 @@ either_track true f g h k s = h s
 either_track false f g h k s = k s
 
 in_arm_track : (m : ℕ) (f : Run) → Track f → Track (in_arm m f)
-in_arm_track m f h c k = then_tracks (f c) (with_log (single (pushes m))) (h c) (λ b j. refl) k
+in_arm_track m f h c k = then_tracks (f c) (with_log (single (pushes (Some (Index (pos m)))))) (h c) (λ b j. refl) k
 
 mutual
   run_track : (b : Statement) (s : Site) → Track (run b s)

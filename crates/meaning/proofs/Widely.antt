@@ -1,5 +1,5 @@
 -- Two runs over cells that are equal modulo a width.
-use Rattle.std.specs.Prelude.{◌≡◌, ℕ, zero, suc, ◌+◌, ◌/◌, ◌%◌, ℤ, Bool, true, false, not, ◌&&◌, ◌||◌, if◌then◌else◌, List, [], ◌∷◌, Option, Some, None, Result, Ok, Err, refl, slice_set}
+use Rattle.std.specs.Prelude.{◌≡◌, ℕ, zero, suc, ◌+◌, ◌/◌, ◌%◌, ℤ, pos, Bool, true, false, not, ◌&&◌, ◌||◌, if◌then◌else◌, List, [], ◌∷◌, Option, Some, None, Result, Ok, Err, refl, slice_set}
 use Rattle.std.proofs.Common.{ap, sym, ◌∙◌}
 use Rattle.ring_core.specs.declared.ring.Width.{Width}
 use Rattle.ring_core.specs.declared.ring.Width.TheVariants.{W8, W16}
@@ -23,10 +23,10 @@ use Rattle.meaning.specs.declared.value.TrapAt.{TrapAt}
 use Rattle.meaning.specs.declared.value.IterationCount.{IterationCount}
 use Rattle.meaning.specs.Values.{Found, dual_add, dual_sub, as_dual, as_kind, whole_number, whole_numbers, literal_value, binary_result, negation_result, power_result, remainder, on_one, on_two, larger_result, smaller_result, absolute_result, call_result, compares, relates}
 use Rattle.meaning.specs.Logs.{Log, silence, single, touched, sets, pushes, ends, both, instance, right_side, rounds, turn, iteration, condition, taken, Passage, Traced, pure, lift, after, continuation, ◌>>=◌, inside, at_line, at_line_by}
-use Rattle.meaning.specs.Sites.{Cells, with_tangent, Site, in_turn, in_iteration, place_of, kind_of, word_of}
+use Rattle.meaning.specs.Sites.{Cells, with_tangent, Site, in_turn, in_iteration, place_of, kind_of}
 use Rattle.meaning.specs.Expressions.{after_touch, content, read_cell, read_place, read, value_of, values_of, holds}
 use Rattle.meaning.specs.Statements.{Run, with_log, store_at, after_push, put, plain_assignment, terms_of, incremented_dual, increment_cell, increment_place, increment, assignment_by, turns_by, step_value, turns_of, value_at, set_at, with_variable, turns, private_names, with_all_unset, unset_log, content_at, private_words, one_turn, Heads, iterations, with_variables, words_of_all, loop_words, further_turns, heads_of, one_iteration, run_turns, run_parallel, choice, in_arm, run, run_all, run_inner, run_within, run_arms}
-use Rattle.meaning.specs.Widths.{modulus, reduced_value, reduced_found, reduced_cell, reduced_cells, reduced_out, reduced_log, RunsRespect, RunsRespectWidths}
+use Rattle.meaning.specs.Widths.{reduced_value, reduced_found, reduced_cell, reduced_cells, reduced_out, reduced_log, RunsRespect, RunsRespectWidths}
 use Rattle.meaning.proofs.Reducing.{Narrow, narrow_8, narrow_16, SameDual, SameValue, dual_same, same_of, as_same, add_duals, sub_duals, binary_same, negated_same, power_same, larger_same, smaller_same, absolute_same, ranks_same}
 
 abbrev Outs : {X A : Type 0} → (A → A → Type 0) → Result A X → Result A X → Type 0
@@ -216,18 +216,6 @@ holds_two w k (disjunction a b) s e c d h =
 
 -- ---- assignments
 
-word_two : (w : Width) (a b : Option Value) → reduced_cell w a ≡ reduced_cell w b → word_of a % modulus w ≡ word_of b % modulus w
-word_two w None None h = refl
-word_two w (Some a) (Some b) h = let q : reduced_value w a ≡ reduced_value w b = cc in by_value a b (same_of w a b q)
-  where
-    by_value : (a b : Value) → SameValue w a b → word_of (Some a) % modulus w ≡ word_of (Some b) % modulus w
-    by_value (Index x) (Index y) g = rw g refl
-    by_value (Ring d) (Ring e) g = g.value
-    by_value (Index x) (Ring e) g = absurd g
-    by_value (Ring d) (Index y) g = absurd g
-word_two w None (Some b) h = absurd (cc)
-word_two w (Some a) None h = absurd (cc)
-
 pointed_two : (w : Width) (a b : Value) → Like w a b → reduced_cell w (with_tangent 0 (Some a)) ≡ reduced_cell w (with_tangent 0 (Some b))
 pointed_two w a b h = by_value a b (same_of w a b h)
   where
@@ -236,6 +224,13 @@ pointed_two w a b h = by_value a b (same_of w a b h)
     by_value (Ring d) (Ring e) g = rw g.value refl
     by_value (Index x) (Ring e) g = absurd g
     by_value (Ring d) (Index y) g = absurd g
+
+-- contents without tangents
+told_two : (w : Width) (a b : Option Value) → reduced_cell w a ≡ reduced_cell w b → reduced_cell w (with_tangent 0 a) ≡ reduced_cell w (with_tangent 0 b)
+told_two w None None h = refl
+told_two w (Some a) (Some b) h = let q : reduced_value w a ≡ reduced_value w b = cc in pointed_two w a b q
+told_two w None (Some b) h = absurd (cc)
+told_two w (Some a) None h = absurd (cc)
 
 converted_two : (w : Width) (k : Kind) (a b : Value) → Like w a b → Like w (as_kind k a) (as_kind k b)
 converted_two w kind.Ring a b h = ap Ring (dual_same w (as_dual a) (as_dual b) (as_same w a b (same_of w a b h)))
@@ -256,8 +251,8 @@ stored_two w c d p v u h g = record { log = ap (sets p) (pointed_two w v u g); o
 saving_two : (w : Width) (s : Site) (x : List ℕ) (v u : Option Value) (t r : Traced Cause Cells) → reduced_cell w v ≡ reduced_cell w u → Tells w (LikeCells w) t r → Tells w (LikeCells w) (after_push s x v t) (after_push s x u r)
 saving_two w s x v u t r g h = by_test (s.pushed x)
   where
-    by_test : (b : Bool) → Tells w (LikeCells w) (if b then after (single (pushes (word_of v))) t else t) (if b then after (single (pushes (word_of u))) r else r)
-    by_test true = after_two w (LikeCells w) (single (pushes (word_of v))) (single (pushes (word_of u))) t r (ap (λ (n : ℕ). single (pushes n)) (word_two w v u g)) h
+    by_test : (b : Bool) → Tells w (LikeCells w) (if b then after (single (pushes (with_tangent 0 v))) t else t) (if b then after (single (pushes (with_tangent 0 u))) r else r)
+    by_test true = after_two w (LikeCells w) (single (pushes (with_tangent 0 v))) (single (pushes (with_tangent 0 u))) t r (ap (λ (c : Option Value). single (pushes c)) (told_two w v u g)) h
     by_test false = h
 
 put_two : (w : Width) (s : Site) (c d : Cells) (x : List ℕ) (v u : Value) (o : Option ℕ) → LikeCells w c d → Like w v u → Tells w (LikeCells w) (put s c x v o) (put s d x u o)
@@ -384,10 +379,10 @@ private_words_two : (w : Width) (s : Site) (body : Statements) (xs : List (List 
 private_words_two w s body [] c d h = refl
 private_words_two w s body (x ∷ xs) c d h =
     ap (λ (l : Log). both l (reduced_log w (private_words s body xs c))) (by_test (assigns_in x body && s.pushed x))
-    ∙ ap (both (reduced_log w (if assigns_in x body && s.pushed x then single (pushes (word_of (content_at d (place_of s x [])))) else silence))) (private_words_two w s body xs c d h)
+    ∙ ap (both (reduced_log w (if assigns_in x body && s.pushed x then single (pushes (with_tangent 0 (content_at d (place_of s x [])))) else silence))) (private_words_two w s body xs c d h)
   where
-    by_test : (b : Bool) → reduced_log w (if b then single (pushes (word_of (content_at c (place_of s x [])))) else silence) ≡ reduced_log w (if b then single (pushes (word_of (content_at d (place_of s x [])))) else silence)
-    by_test true = ap (λ (n : ℕ). single (pushes n)) (word_two w (content_at c (place_of s x [])) (content_at d (place_of s x [])) (content_at_two w c d (place_of s x []) h))
+    by_test : (b : Bool) → reduced_log w (if b then single (pushes (with_tangent 0 (content_at c (place_of s x [])))) else silence) ≡ reduced_log w (if b then single (pushes (with_tangent 0 (content_at d (place_of s x [])))) else silence)
+    by_test true = ap (λ (v : Option Value). single (pushes v)) (told_two w (content_at c (place_of s x [])) (content_at d (place_of s x [])) (content_at_two w c d (place_of s x []) h))
     by_test false = refl
 
 one_turn_two : (w : Width) (s : Site) → s.width ≡ w → (var : List ℕ) (t : IterationCount) (body : Site → Run) → ((u : Site) → u.width ≡ w → Steady w (body u)) → (i : ℕ) → Steady w (one_turn s var t body i)
@@ -446,7 +441,7 @@ either_two w false f g k l u e = l u e
 
 in_arm_two : (w : Width) (m : ℕ) (f : Run) → Steady w f → Steady w (in_arm m f)
 in_arm_two w m f k c d h =
-    inside_two w (LikeCells w) (taken m) _ _ (bind w (LikeCells w) (LikeCells w) _ _ _ _ (k c d h) (λ a b g. noted_two w (single (pushes m)) (single (pushes m)) a b refl g))
+    inside_two w (LikeCells w) (taken m) _ _ (bind w (LikeCells w) (LikeCells w) _ _ _ _ (k c d h) (λ a b g. noted_two w (single (pushes (Some (Index (pos m))))) (single (pushes (Some (Index (pos m))))) a b refl g))
 
 mutual
   run_two : (w : Width) → Narrow w → (b : Statement) (s : Site) → s.width ≡ w → Steady w (run b s)

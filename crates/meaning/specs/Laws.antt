@@ -41,7 +41,7 @@ abbrev pub trap_in : List Event → Option TrapAt
 trap_in [] = None
 trap_in (begins ∷ es) = trap_in es
 trap_in (touches t ∷ es) = trap_in es
-trap_in (pushes w ∷ es) = trap_in es
+trap_in (pushes v ∷ es) = trap_in es
 trap_in (ends line ∷ es) = trap_in es
 trap_in (traps t ∷ es) = Some t
 

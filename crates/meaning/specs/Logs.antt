@@ -15,8 +15,8 @@ pub data Event : Type 0 where
   -- a statement instance begins
   begins : Event
   touches : Touch → Event
-  -- a word of the tape
-  pushes : (word : ℕ) → Event
+  -- a word goes to the tape: that of this content, of a ring value told without its tangent
+  pushes : (content : Option Value) → Event
   -- a parallel loop's last iteration is over
   ends : (line : ℕ) → Event
   traps : TrapAt → Event

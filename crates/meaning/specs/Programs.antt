@@ -10,7 +10,7 @@ use Rattle.meaning.specs.declared.value.Value.{Value}
 use Rattle.meaning.specs.declared.value.Value.TheVariants.{Index, Ring}
 use Rattle.store_core.specs.Keys.{keys_of}
 use Rattle.meaning.specs.declared.value.TrapAt.{TrapAt}
-use Rattle.meaning.specs.Logs.{Traced}
+use Rattle.meaning.specs.Logs.{Event, begins, touches, pushes, ends, traps, Traced}
 use Rattle.meaning.specs.Sites.{Key, Cells, Site, opening_site, kind_of, word_of}
 use Rattle.meaning.specs.Statements.{Run, run_all}
 use Rattle.meaning.specs.Adjoints.{cells_along, adjoint_at}
@@ -49,6 +49,15 @@ meaning p shapes pushed words direction = run_of p shapes pushed (cells_along di
 -- the adjoint at place j for a seed, which has a word for each place
 abbrev pub adjoint_of : Subroutine → List Shape → (words seed : List ℕ) → ℕ → ℕ
 adjoint_of p shapes words seed j = adjoint_at (run_of p shapes no_pushes) (entry_cells p shapes words) seed j
+
+-- the words that go to the tape, in order
+abbrev pub tape_words : List Event → List ℕ
+tape_words [] = []
+tape_words (begins ∷ es) = tape_words es
+tape_words (touches t ∷ es) = tape_words es
+tape_words (pushes v ∷ es) = word_of v ∷ tape_words es
+tape_words (ends line ∷ es) = tape_words es
+tape_words (traps t ∷ es) = tape_words es
 
 -- the n numbers from one on
 abbrev pub numbers_from : ℕ → ℕ → List ℕ

@@ -1,7 +1,6 @@
 -- What statements do, in order, on one thread: the cells after them, and the log.
 use Rattle.std.specs.Prelude.{ℕ, zero, suc, ◌+◌, ◌*◌, ◌/◌, ◌%◌, Bool, true, false, ◌&&◌, if◌then◌else◌, List, [], ◌∷◌, filter, Option, Some, None, Ok, Err, ℤ, pos, ◌+ℤ◌, ◌-ℤ◌, ◌*ℤ◌, slice_set, int_div}
 use Rattle.std.specs.Ordering.{int_eq}
-use Rattle.std.specs.Int.{w64, cast_unsigned}
 use Rattle.fl_ast.specs.declared.directive.Directive.{Directive}
 use Rattle.fl_ast.specs.Tree.{Expression, Designator, Statement, assignment, branch, loop, Statements, no_statements, statement, Arms, no_arms, arm}
 use Rattle.fl_types.specs.declared.access.AccessKind.{AccessKind}
@@ -20,7 +19,7 @@ use Rattle.meaning.specs.declared.value.TrapAt.{TrapAt}
 use Rattle.meaning.specs.declared.value.IterationCount.{IterationCount}
 use Rattle.meaning.specs.Values.{dual_add, dual_sub, as_dual, as_kind, whole_number, whole_numbers}
 use Rattle.meaning.specs.Logs.{Log, silence, single, sets, both, pushes, ends, instance, right_side, rounds, turn, iteration, condition, taken, Traced, pure, lift, after, ◌>>=◌, inside, at_line}
-use Rattle.meaning.specs.Sites.{Cells, with_tangent, Site, in_turn, in_iteration, place_of, kind_of, word_of}
+use Rattle.meaning.specs.Sites.{Cells, with_tangent, Site, in_turn, in_iteration, place_of, kind_of}
 use Rattle.meaning.specs.Expressions.{after_touch, content, value_of, values_of, holds}
 
 -- what runs: from where it stands and the cells before, to the cells after
@@ -40,9 +39,9 @@ set_log p v = sets p (with_tangent 0 v)
 abbrev pub store_at : Cells → ℕ → Value → Traced Cause Cells
 store_at cells p v = record { log = set_log p (Some v); out = Ok (slice_set cells p (Some v)) }
 
--- with the old value's word first, where the name's old values are pushed
+-- with the push of the old value first, where the name's old values are pushed
 abbrev pub after_push : {X A : Type 0} → Site → List ℕ → Option Value → Traced X A → Traced X A
-after_push site x old t = if site.pushed x then after (single (pushes (word_of old))) t else t
+after_push site x old t = if site.pushed x then after (single (pushes (with_tangent 0 old))) t else t
 
 abbrev pub put : Site → Cells → List ℕ → Value → Option ℕ → Traced Cause Cells
 put site cells x v None = lift (Err (Bounds x))
@@ -124,7 +123,7 @@ turns (suc n) f cells = turns n f cells >>= f n
 -- the words of a loop, after its last turn
 abbrev pub loop_words : IterationCount → Log
 loop_words t =
-    both (single (pushes (cast_unsigned w64 t.first))) (both (single (pushes (cast_unsigned w64 t.last))) (single (pushes (cast_unsigned w64 t.step))))
+    both (single (pushes (Some (Index t.first)))) (both (single (pushes (Some (Index t.last)))) (single (pushes (Some (Index t.step)))))
 
 -- the private scalars of a parallel loop, in the order of their declarations
 abbrev pub private_names : Site → Directive → List ℕ → Statements → List (List ℕ)
@@ -146,7 +145,7 @@ content_at cells (Some p) = content cells p
 abbrev pub private_words : Site → Statements → List (List ℕ) → Cells → Log
 private_words site body [] cells = silence
 private_words site body (x ∷ xs) cells =
-    both (if assigns_in x body && site.pushed x then single (pushes (word_of (content_at cells (place_of site x [])))) else silence)
+    both (if assigns_in x body && site.pushed x then single (pushes (with_tangent 0 (content_at cells (place_of site x [])))) else silence)
     (private_words site body xs cells)
 
 -- a turn of a sequential loop
@@ -210,7 +209,7 @@ choice false f g = g
 
 -- the statements of an arm, and its number's word
 abbrev pub in_arm : ℕ → Run → Run
-in_arm m f cells = inside (taken m) (f cells >>= with_log (single (pushes m)))
+in_arm m f cells = inside (taken m) (f cells >>= with_log (single (pushes (Some (Index (pos m))))))
 
 abbrev mutual
   pub run : Statement → Site → Run

@@ -49,7 +49,7 @@ seen_with judge limits seen begins =
     if nat_le (seen.statements + 1) limits.statements then Ok (record seen { statements = seen.statements + 1 }) else Err over_statements
 seen_with judge limits seen (touches t) =
     if nat_le (seen.touches + 1) limits.touches then Ok (record seen { touches = seen.touches + 1; since = seen.since ++ t ∷ [] }) else Err over_touches
-seen_with judge limits seen (pushes w) =
+seen_with judge limits seen (pushes v) =
     if nat_le (seen.words + 1) limits.words then Ok (record seen { words = seen.words + 1 }) else Err over_words
 seen_with judge limits seen (ends line) = unless_conflict line (record seen { since = [] }) (judge line seen.since)
 seen_with judge limits seen (traps t) = Err (trapped t)
@@ -71,7 +71,7 @@ first_stop judge limits es = stop_after judge limits unseen es
 abbrev pub tick_of : Event → ℕ
 tick_of begins = 1
 tick_of (touches t) = 0
-tick_of (pushes w) = 0
+tick_of (pushes v) = 0
 tick_of (ends line) = 0
 tick_of (traps t) = 0
 

@@ -61,7 +61,7 @@ WidthsAreRespected = OperationsRespect W8 × OperationsRespect W16
 abbrev pub reduced_event : Width → Event → Event
 reduced_event w begins = begins
 reduced_event w (touches t) = touches t
-reduced_event w (pushes n) = pushes (n % modulus w)
+reduced_event w (pushes v) = pushes (reduced_cell w v)
 reduced_event w (ends line) = ends line
 reduced_event w (traps t) = traps t
 
