@@ -4,3 +4,4 @@ pub mod Increment
 pub mod Sharing
 pub mod Nests
 pub mod Accesses
+pub mod Kinds

@@ -22,3 +22,13 @@ pub mod Widely
 pub mod TrapProofs
 pub mod Everywhere
 pub mod Once
+pub mod Touching
+pub mod Gives
+pub mod Placing
+pub mod KindsOfValues
+pub mod ValuesFit
+pub mod RunsFit
+pub mod Contents
+pub mod Storing
+pub mod Soundly
+pub mod FittingProofs

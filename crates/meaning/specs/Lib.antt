@@ -10,3 +10,9 @@ pub mod Programs
 pub mod Laws
 pub mod Sequential
 pub mod Widths
+pub mod Fitting
+pub mod Defined
+pub mod Touches
+pub mod Frame
+pub mod Reached
+pub mod FittingLaws

@@ -2,10 +2,15 @@
 #![tactic(auto)]
 
 mod arithmetic;
+mod fitting;
 mod laws;
 mod value;
 
 pub use arithmetic::{binary, intrinsic, literal, relates};
+pub use fitting::{
+    cells_are_kept, conditions_are_defined, counts_fit, fitting_is_by_place, groups_touch,
+    names_are_kept, runs_are_sound, runs_fit, values_fit,
+};
 pub use laws::{
     cells_are_replayed, conflict_is_reported, reports_are_one, runs_go_by_keys,
     runs_respect_widths, sequential_runs_go_by_keys, tangents_are_linear, tangents_are_unseen,

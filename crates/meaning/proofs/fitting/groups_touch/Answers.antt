@@ -1,0 +1,5 @@
+use Rattle.meaning.proofs.Touching.{touches_are_accesses}
+use Rattle.meaning.proofs.fitting.groups_touch.Goals as goal
+
+pub returns : goal.returns
+returns c = touches_are_accesses

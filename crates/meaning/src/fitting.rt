@@ -1,0 +1,48 @@
+ghost use Rattle.meaning.specs.FittingLaws.{FittingIsByPlace, ValuesFit, ConditionsAreDefined, CountsFit, RunsFit, GroupsTouch};
+ghost use Rattle.meaning.specs.Frame.{NamesAreKept, CellsAreKept};
+ghost use Rattle.meaning.specs.Reached.{RunsAreSound};
+
+/// Cells fit exactly where there are as many as keys, and each fits its key.
+pub fn fitting_is_by_place()
+    ensures { FittingIsByPlace }
+{}
+
+/// In fitting cells a well-kinded expression has a value of its kind or a cause of the language's own.
+pub fn values_fit()
+    ensures { ValuesFit }
+{}
+
+/// In fitting cells a well-kinded condition evaluates only what is defined.
+pub fn conditions_are_defined()
+    ensures { ConditionsAreDefined }
+{}
+
+/// In fitting cells the bounds and the step of a well-kinded loop are index numbers.
+pub fn counts_fit()
+    ensures { CountsFit }
+{}
+
+/// A well-kinded body that starts from fitting cells ends with fitting cells, or traps.
+pub fn runs_fit()
+    ensures { RunsFit }
+{}
+
+/// Each statement that such a run reaches is run in fitting cells, and evaluates only what is defined.
+pub fn runs_are_sound()
+    ensures { RunsAreSound }
+{}
+
+/// A run ends with as many cells as it began with.
+pub fn cells_are_kept()
+    ensures { CellsAreKept }
+{}
+
+/// A name that a body doesn't write holds after its run what it held before.
+pub fn names_are_kept()
+    ensures { NamesAreKept }
+{}
+
+/// What an assignment, a condition or the bounds of a loop touch are its accesses, in order.
+pub fn groups_touch()
+    ensures { GroupsTouch }
+{}
