@@ -5,7 +5,7 @@ use Rattle.fl_types.specs.declared.access.AccessKind.{AccessKind}
 use Rattle.meaning.specs.declared.value.Value.{Value}
 use Rattle.meaning.specs.declared.value.Cause.{Cause}
 use Rattle.meaning.specs.Logs.{Log, single, pushes, touched, Traced, after, continuation, ◌>>=◌, at_line, at_line_by}
-use Rattle.meaning.specs.Sites.{Cells, Site, word_of}
+use Rattle.meaning.specs.Sites.{Cells, with_tangent, Site}
 use Rattle.meaning.specs.Expressions.{after_touch}
 use Rattle.meaning.specs.Statements.{Run, after_push, turns}
 
@@ -45,7 +45,7 @@ touching_gives {X} {A} s x p kind t P h = by_test (s.accessed x)
 pub saving_gives : {X A : Type 0} (s : Site) (x : List ℕ) (old : Option Value) (t : Traced X A) (P : A → Type 0) → Gives t P → Gives (after_push s x old t) P
 saving_gives {X} {A} s x old t P h = by_test (s.pushed x)
   where
-    by_test : (b : Bool) → Gives (if b then after (single (pushes (word_of old))) t else t) P
+    by_test : (b : Bool) → Gives (if b then after (single (pushes (with_tangent 0 old))) t else t) P
     by_test true = h
     by_test false = h
 

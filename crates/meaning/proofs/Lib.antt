@@ -32,3 +32,4 @@ pub mod Contents
 pub mod Storing
 pub mod Soundly
 pub mod FittingProofs
+mod Fitted

@@ -24,7 +24,7 @@ use Rattle.meaning.specs.declared.value.Cause.TheVariants.{Bounds, Unset}
 use Rattle.meaning.specs.declared.value.TrapAt.{TrapAt}
 use Rattle.meaning.specs.declared.value.IterationCount.{IterationCount}
 use Rattle.meaning.specs.Values.{as_dual, as_kind, whole_numbers}
-use Rattle.meaning.specs.Logs.{Log, single, both, pushes, ends, right_side, rounds, condition, Traced, pure, after, ◌>>=◌, inside, at_line}
+use Rattle.meaning.specs.Logs.{Log, single, both, ends, right_side, rounds, condition, Traced, pure, after, ◌>>=◌, inside, at_line}
 use Rattle.meaning.specs.Sites.{Key, Cells, Site, in_turn, in_iteration, place_of, kind_of}
 use Rattle.meaning.specs.Expressions.{content, value_of, values_of, holds}
 use Rattle.meaning.specs.Statements.{Run, with_log, store_at, after_push, put, plain_assignment, terms_of, incremented_dual, increment_cell, increment_place, increment, assignment_by, turns_of, value_at, set_at, with_variable, turns, loop_words, private_names, with_all_unset, unset_log, content_at, private_words, one_turn, Heads, iterations, with_variables, words_of_all, further_turns, heads_of, one_iteration, run_turns, run_parallel, choice, in_arm, run, run_all, run_inner, run_within, run_arms}
@@ -191,6 +191,9 @@ module _ (W : List ℕ → Type 0) (R : Cells → Cells → Type 0) where
   choice_goes true f g h k = h
   choice_goes false f g h k = k
 
+  in_arm_goes : (m : ℕ) (f : Run) → Goes f → Goes (in_arm m f)
+  in_arm_goes m f g c = then_gives (f c) _ (R c) (λ b e. gives_value {X = TrapAt} b (R c) (g c b e))
+
   either_goes : (s : Site) (b : Bool) (f g : Site → Run) → Goes (f s) → Goes (g s) → Goes ((if b then f else g) s)
   either_goes s true f g h k = h
   either_goes s false f g h k = k
@@ -234,11 +237,11 @@ module _ (W : List ℕ → Type 0) (R : Cells → Cells → Type 0) where
         (λ b. run_all_goes xs s h (λ y e. a y (or_right (assigns y x) (assigns_in y xs) e)) (λ y e. u y (or_right (scopes y x) (scopes_in y xs) e)) b) c
 
     arms_go : (arms : Arms) (line m : ℕ) (other : Site → Run) (s : Site) → Steps s.keys W R → ((y : List ℕ) → assigns_in_arms y arms ≡ true → W y) → ((y : List ℕ) → scopes_in_arms y arms ≡ true → W y) → Goes (other s) → Goes (run_arms arms line m other s)
-    arms_go no_arms line m other s h a u g c = then_goes s.keys h (other s) (with_log (single (pushes m))) g (noted_goes s.keys h (single (pushes m))) c
+    arms_go no_arms line m other s h a u g c = in_arm_goes m (other s) g c
     arms_go (arm test body arms) line m other s h a u g c =
         then_gives (inside (condition m) (at_line line (holds test s c))) _ (R c)
         (λ b e. choice_goes b (in_arm m (run_all body s)) (run_arms arms line (m + 1) other s)
-        (λ d. then_goes s.keys h (run_all body s) (with_log (single (pushes m))) (λ i. run_all_goes body s h (λ y f. a y (or_left (assigns_in y body) (assigns_in_arms y arms) f)) (λ y f. u y (or_left (scopes_in y body) (scopes_in_arms y arms) f)) i) (noted_goes s.keys h (single (pushes m))) d)
+        (λ d. in_arm_goes m (run_all body s) (λ i. run_all_goes body s h (λ y f. a y (or_left (assigns_in y body) (assigns_in_arms y arms) f)) (λ y f. u y (or_left (scopes_in y body) (scopes_in_arms y arms) f)) i) d)
         (λ d. arms_go arms line (m + 1) other s h (λ y f. a y (or_right (assigns_in y body) (assigns_in_arms y arms) f)) (λ y f. u y (or_right (scopes_in y body) (scopes_in_arms y arms) f)) g d) c)
 
 -- ---- as many cells

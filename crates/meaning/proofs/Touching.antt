@@ -18,7 +18,7 @@ use Rattle.meaning.specs.declared.value.IterationCount.{IterationCount}
 use Rattle.meaning.specs.declared.value.Value.TheVariants.{Ring}
 use Rattle.meaning.specs.Values.{as_dual, as_kind, whole_number, whole_numbers}
 use Rattle.meaning.specs.Logs.{Touch, Event, begins, touches, pushes, ends, traps, Log, single, both, touched, right_side, events_in, Traced, pure, lift, after, continuation, ◌>>=◌, inside, at_line, at_line_by}
-use Rattle.meaning.specs.Sites.{Cells, Site, place_of, kind_of, word_of}
+use Rattle.meaning.specs.Sites.{Cells, with_tangent, Site, place_of, kind_of}
 use Rattle.meaning.specs.Expressions.{after_touch, content, read_cell, read_place, read, value_of, values_of, holds}
 use Rattle.meaning.specs.Statements.{store_at, after_push, put, plain_assignment, terms_of, incremented_dual, increment_cell, increment_place, increment, assignment_by, turns_by, step_value, turns_of}
 use Rattle.meaning.specs.Touches.{touches_among, touches_in, scope_at, place_at, designated_place, touch_of, AreTouches, TouchesAreAccesses}
@@ -140,7 +140,7 @@ condition_touches (disjunction a b) s cells line path =
 saving_quiet : {X A : Type 0} (s : Site) (x : List ℕ) (old : Option Value) (t : Traced X A) → IsQuiet t.log → IsQuiet (after_push s x old t).log
 saving_quiet s x old t h k = by_test (s.pushed x)
   where
-    by_test : (b : Bool) → touches_in k (if b then after (single (pushes (word_of old))) t else t).log ≡ []
+    by_test : (b : Bool) → touches_in k (if b then after (single (pushes (with_tangent 0 old))) t else t).log ≡ []
     by_test true = h k
     by_test false = h k
 
