@@ -4,3 +4,6 @@ pub mod Induction
 pub mod Same
 pub mod Occurs
 pub mod Sizes
+pub mod Measures
+pub mod Words
+pub mod Readable

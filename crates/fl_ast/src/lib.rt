@@ -18,6 +18,3 @@ pub use fl_base::{Memory, Name};
 pub use kind::{BinOp, Fun, Intent, Kind, RelOp};
 pub use same::same_is_equal;
 pub use stmt::{Arm, Program, Stmt};
-
-#[cfg(test)]
-mod tests;

@@ -9,3 +9,4 @@ pub mod Refusing
 pub mod ReadBack
 pub mod Lexemes
 pub mod Promises
+pub mod SpelledTokens

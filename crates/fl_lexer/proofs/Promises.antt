@@ -2,6 +2,7 @@
 use Rattle.std.proofs.Common.{◌≡◌, ◌≢◌, List, ℕ, Result, Ok, Err, Vec, Global, sym, ◌∙◌}
 use Rattle.std.specs.Prelude.{[], IfOk, IfErr}
 use Rattle.tokens.specs.Spans.{Are_spans}
+use Rattle.tokens.specs.Spelled.{AreSpelled}
 use Rattle.tokens.specs.declared.Token.{Token}
 use Rattle.fl_base.specs.Finds.{Finds}
 use Rattle.fl_lexer.specs.declared.error.LexError.{LexError}
@@ -13,6 +14,7 @@ use Rattle.fl_lexer.specs.Refusals.{refusals, IsFirst}
 use Rattle.fl_lexer.proofs.Refusing.{lexed_refused, lexed_none}
 use Rattle.fl_lexer.proofs.TextSpelling.{lexed_found, lexed_again}
 use Rattle.fl_lexer.proofs.Placing.{spells_in_order, spans_from}
+use Rattle.fl_lexer.proofs.SpelledTokens.{spelled_in_order}
 
 abbrev Outcome : Type 0
 Outcome = Result (Vec Token Global) LexError
@@ -35,6 +37,10 @@ finds_in_order text (Err e) h = tt
 pub finds_spans : (text : List ℕ) (r : Outcome) → Exact text r → IfOk r (λ v. Are_spans text v.items)
 finds_spans text (Ok v) h = spans_from text 0 v.items (spells_in_order text v.items (lexed_found text v.items h))
 finds_spans text (Err e) h = tt
+
+pub finds_spelled_in_order : (text : List ℕ) (r : Outcome) → Exact text r → IfOk r (λ v. AreSpelled text 0 v.items)
+finds_spelled_in_order text (Ok v) h = spelled_in_order text 0 v.items (spells_in_order text v.items (lexed_found text v.items h))
+finds_spelled_in_order text (Err e) h = tt
 
 pub finds_none : (text : List ℕ) (r : Outcome) → Exact text r → IfOk r (λ v. refusals text ≡ [])
 finds_none text (Ok v) h = lexed_none text v.items h

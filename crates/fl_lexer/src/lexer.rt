@@ -3,6 +3,7 @@
 ghost use Rattle.std.specs.Prelude.{◌≡◌, ◌≢◌, ◌==◌, ◌&&◌, if◌then◌else◌, ◌<◌, ◌≤◌, ◌+◌, ◌-◌, ◌^◌, [], ◌∷◌, ◌++◌, length, drop, false, List, map, Ok, IfOk, IfErr};
 ghost use Rattle.fl_base.specs.Finds.{Finds};
 ghost use Rattle.tokens.specs.Spans.{Are_spans};
+ghost use Rattle.tokens.specs.Spelled.{AreSpelled};
 ghost use Rattle.fl_lexer.specs.Reading as spec;
 ghost use Rattle.fl_lexer.specs.Spelling.{Spells};
 ghost use Rattle.fl_lexer.specs.Placement.{InOrder};
@@ -330,6 +331,7 @@ pub fn lex(alloc: Global, text: &[u8]) -> Result<Vec<Token>, LexError>
     // Each token is its slice of the text, in order.
     ensures in_order { IfOk result (λ v. InOrder text.now 0 v.items) }
     ensures spans { IfOk result (λ v. Are_spans text.now v.items) }
+    ensures spelled { IfOk result (λ v. AreSpelled text.now 0 v.items) }
 {
     tokens_of(alloc, text)
 }
@@ -340,6 +342,3 @@ pub fn printed_is_read_back()
     ensures tokens { (ls : List Printed) → ArePrinted ls → spec.lexed (printed ls) ≡ Ok (printed_tokens spec.first_place false ls) }
     ensures lexemes { (ls : List Printed) → map (lexeme (printed ls)) (printed_tokens spec.first_place false ls) ≡ printed_lexemes 1 false ls }
 {}
-
-#[cfg(test)]
-mod tests;

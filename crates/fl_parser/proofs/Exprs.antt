@@ -11,15 +11,16 @@ use Rattle.parsing.specs.Reading.{Parser}
 use Rattle.parsing.specs.Grammar.{Grammar, ◌or◌}
 use Rattle.fl_ast.specs.declared.kind.BinOp.TheVariants.{Add, Mul}
 use Rattle.fl_parser.specs.declared.tree.Measured.{Measured}
-use Rattle.fl_parser.specs.Terminals.{sum_op_by, product_op_by, is_sum_op, is_product_op}
-use Rattle.fl_parser.specs.Trees.{literal, scalar, negation, binary}
+use Rattle.fl_parser.specs.Terminals.{sum_op_by, product_op_by}
+use Rattle.fl_parser.specs.Trees.{literal, scalar, negation, binary, may_stand_left}
 use Rattle.fl_parser.specs.Wide.{More}
 use Rattle.fl_parser.specs.ExprGrammar as g
 use Rattle.fl_parser.specs.ExprReading as p
 use Rattle.parsing.proofs.Outcomes.{never, sees-never, which, differ, Shrinks, shrinks_pure, shrinks_seq, Bites}
 use Rattle.parsing.proofs.Exact.{Exact, Room, always_room, room_of, frees_less, Begins, Meets, pure_exact, seq, either_within, shrinks_token}
-use Rattle.parsing.proofs.Rules.{either, mapped, loop_exact, many_meets, begins_seq, begins_or, begins_where, meets_never}
-use Rattle.parsing.proofs.OnSymbols.{apart, less, among, meets, begins_in, begins_mark, begins_name, begins_number, begins_by, name_exact, number_exact, by_exact, mark_then, bites_mark, bites_by}
+use Rattle.parsing.proofs.Rules.{either, begins_seq, begins_or, begins_where, meets_never}
+use Rattle.parsing.proofs.Grouped.{grouped_exact, grouped_meets}
+use Rattle.parsing.proofs.OnSymbols.{apart, less, among, meets, begins_in, begins_mark, begins_name, begins_number, name_exact, number_exact, mark_then, bites_mark}
 
 -- what goes on with a term
 abbrev pub multiplies : Symbol → Bool
@@ -92,22 +93,12 @@ module _ (l : Freed) (open_ open2 : Bool) (room : Room l Deep open_ open2) (ig :
   unfolding g.factor
   factor_begins = primary_begins
 
-  times_one_exact : (d d2 : Limit) → Frees l Deep d d2 → (x : Measured) → Exact l (g.times_one open_ ig d x) never (p.times_one open_ ip d x) (p.times_one open2 ip2 d2 x)
-  unfolding g.times_one p.times_one
-  times_one_exact d d2 F x = seq (by_exact product_op_by s.Star Mul refl) (λ op. mapped (factor_exact (fewer d) (fewer d2) (frees_less F)) (binary op x)) (λ op. meets_never never _)
-
-  times_one_begins : (d : Limit) (x : Measured) → Begins (g.times_one open_ ig d x) is_product_op
-  unfolding g.times_one
-  times_one_begins d x = begins_seq _ (begins_by product_op_by)
-
-  times_one_bites : (d d2 : Limit) → Frees l Deep d d2 → (x : Measured) → Bites (p.times_one open2 ip2 d2 x) is_product_op
-  unfolding p.times_one
-  times_one_bites d d2 F x = bites_by product_op_by _ (λ op. shrinks_seq _ _ ((factor_exact (fewer d) (fewer d2) (frees_less F)).shrinks) (λ r. shrinks_pure (binary op x r)))
+  abbrev rooms : (d d2 : Limit) → Frees l Deep d d2 → (x : Measured) → Room l Deep (may_stand_left d x) (may_stand_left d2 x)
+  rooms d d2 F x = room_of F x.depth
 
   factors_exact : (d d2 : Limit) → Frees l Deep d d2 → (x : Measured) → Exact l (g.factors_from open_ ig d x) (on multiplies) (p.factors_from open_ ip d x) (p.factors_from open2 ip2 d2 x)
   unfolding g.factors_from p.factors_from
-  factors_exact d d2 F = loop_exact l is_product_op never (on multiplies) (λ x. allows d x.depth) (λ x. allows d2 x.depth) Deep _ _ _
-      (λ x. room_of F x.depth) (times_one_exact d d2 F) (times_one_begins d) (times_one_bites d d2 F)
+  factors_exact = grouped_exact l Deep product_op_by s.Star Mul refl binary may_stand_left never (on multiplies) (g.factor open_ ig) (p.factor open_ ip) (p.factor open2 ip2) rooms factor_exact
       (λ rest h. sees-never rest) (λ rest h. h) (λ rest h. sees-never rest)
 
   term_exact : (d d2 : Limit) → Frees l Deep d d2 → Exact l (g.term open_ ig d) (on multiplies) (p.term open_ ip d) (p.term open2 ip2 d2)
@@ -118,28 +109,14 @@ module _ (l : Freed) (open_ open2 : Bool) (room : Room l Deep open_ open2) (ig :
   unfolding g.term
   term_begins d = begins_seq _ (factor_begins d)
 
-  plus_one_exact : (d d2 : Limit) → Frees l Deep d d2 → (x : Measured) → Exact l (g.plus_one open_ ig d x) (on multiplies) (p.plus_one open_ ip d x) (p.plus_one open2 ip2 d2 x)
-  unfolding g.plus_one p.plus_one
-  plus_one_exact d d2 F x = seq (by_exact sum_op_by s.Plus Add refl) (λ op. mapped (term_exact (fewer d) (fewer d2) (frees_less F)) (binary op x)) (λ op. meets_never (on multiplies) _)
-
-  plus_one_begins : (d : Limit) (x : Measured) → Begins (g.plus_one open_ ig d x) is_sum_op
-  unfolding g.plus_one
-  plus_one_begins d x = begins_seq _ (begins_by sum_op_by)
-
-  plus_one_bites : (d d2 : Limit) → Frees l Deep d d2 → (x : Measured) → Bites (p.plus_one open2 ip2 d2 x) is_sum_op
-  unfolding p.plus_one
-  plus_one_bites d d2 F x = bites_by sum_op_by _ (λ op. shrinks_seq _ _ ((term_exact (fewer d) (fewer d2) (frees_less F)).shrinks) (λ r. shrinks_pure (binary op x r)))
-
   terms_exact : (d d2 : Limit) → Frees l Deep d d2 → (x : Measured) → Exact l (g.terms_from open_ ig d x) (on binds) (p.terms_from open_ ip d x) (p.terms_from open2 ip2 d2 x)
   unfolding g.terms_from p.terms_from
-  terms_exact d d2 F = loop_exact l is_sum_op (on multiplies) (on binds) (λ x. allows d x.depth) (λ x. allows d2 x.depth) Deep _ _ _
-      (λ x. room_of F x.depth) (plus_one_exact d d2 F) (plus_one_begins d) (plus_one_bites d d2 F)
+  terms_exact = grouped_exact l Deep sum_op_by s.Plus Add refl binary may_stand_left (on multiplies) (on binds) (g.term open_ ig) (p.term open_ ip) (p.term open2 ip2) rooms term_exact
       (less multiplies binds refl refl) (less (reads sum_op_by) binds refl refl) (apart (reads sum_op_by) multiplies refl refl)
 
   terms_meet : (d d2 : Limit) → Frees l Deep d d2 → (x : Measured) → Meets (g.terms_from open_ ig d x) (on multiplies) (on binds)
   unfolding g.terms_from p.terms_from
-  terms_meet d d2 F = many_meets l is_sum_op (on multiplies) (on binds) (λ x. allows d x.depth) (λ x. allows d2 x.depth) Deep (g.plus_one open_ ig d) (p.plus_one open_ ip d) (p.plus_one open2 ip2 d2)
-      (λ x. room_of F x.depth) (plus_one_exact d d2 F) (plus_one_begins d) (plus_one_bites d d2 F)
+  terms_meet = grouped_meets l Deep sum_op_by s.Plus Add refl binary may_stand_left (on multiplies) (on binds) (g.term open_ ig) (p.term open_ ip) (p.term open2 ip2) rooms term_exact
       (less multiplies binds refl refl) (less (reads sum_op_by) binds refl refl) (apart (reads sum_op_by) multiplies refl refl)
 
   negated_exact : (d d2 : Limit) → Frees l Deep d d2 → Exact l (g.negated open_ ig d) (on binds) (p.negated open_ ip d) (p.negated open2 ip2 d2)

@@ -1,5 +1,7 @@
-pub mod Depths
+pub mod Holding
+pub mod Readables
 pub mod Exprs
 pub mod Texts
+pub mod Spans
 pub mod Turns
 pub mod Units

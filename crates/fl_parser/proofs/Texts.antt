@@ -1,12 +1,12 @@
 -- What the parser answers, against the grammar.
-use Rattle.std.proofs.Common.{◌≡◌, ◌≢◌, ℕ, ◌<◌, true, false, List, map, Some, None, Result, Ok, Err, refl, sym, ap, ◌∙◌, lit<}
+use Rattle.std.proofs.Common.{◌≡◌, ◌≢◌, ℕ, ◌+◌, ◌<◌, ◌^◌, true, false, List, map, Some, None, Result, Ok, Err, refl, sym, ap, ◌∙◌, lit<}
 use Rattle.std.specs.Prelude.{IfOk, IfErr}
 use Rattle.fl_base.specs.Finds.{Finds}
 use Rattle.tokens.specs.declared.Token.{Token}
 use Rattle.tokens.specs.Lexeme.{lexeme}
 use Rattle.fl_ast.specs.declared.stmt.Program.{Program}
 use Rattle.parsing.specs.declared.fault.Cause.{Cause}
-use Rattle.parsing.specs.declared.fault.Cause.TheVariants.{Expected, Deep, Many}
+use Rattle.parsing.specs.declared.fault.Cause.TheVariants.{Expected, Deep, Many, Construct, Unknown, Twice, Form}
 use Rattle.parsing.specs.declared.fault.Fault.{Fault}
 use Rattle.parsing.specs.Freed.{Freed, Frees, frees}
 use Rattle.parsing.specs.Freed.Freed.{Nothing, Counts, All}
@@ -16,16 +16,18 @@ use Rattle.parsing.specs.Refusal.{all_of}
 use Rattle.fl_parser.specs.declared.error.ParseError.{ParseError}
 use Rattle.fl_parser.specs.declared.error.ParseError.TheVariants.{Memory}
 use Rattle.fl_parser.specs.Parsed.{error_of, placed, parsed}
-use Rattle.fl_parser.specs.Refuses.{Refuses, Told, uncounted, unlimited}
-use Rattle.fl_parser.specs.Trees.{Limits, the_limits}
+use Rattle.fl_parser.specs.Refuses.{Refuses, RefusedAnyhow, Told, uncounted, unlimited}
+use Rattle.fl_parser.specs.Limits.{Limits, the_limits}
 use Rattle.fl_parser.specs.Wide.{More, Widens}
 use Rattle.fl_parser.specs.UnitGrammar as g
 use Rattle.fl_parser.specs.UnitReading as p
 use Rattle.parsing.proofs.Outcomes.{never, differ}
 use Rattle.parsing.proofs.Exact.{Exact}
 use Rattle.parsing.proofs.Whole.{found, only, refused, freed, unfreed}
-use Rattle.fl_parser.specs.Depth.{Is_within}
-use Rattle.fl_parser.proofs.Depths.{unit_within}
+use Rattle.std.specs.Prelude.{length}
+use Rattle.tokens.specs.Spelled.{AreSpelled}
+use Rattle.fl_ast.specs.Readable.{IsReadable}
+use Rattle.fl_parser.proofs.Readables.{readable_by_tokens}
 use Rattle.fl_parser.proofs.Units.{unit_exact}
 
 same_limit : (cause : Cause) (d : Limit) → Frees Nothing cause d d
@@ -43,7 +45,7 @@ more l b b2 t h = record { stays = λ f. differ (frees l Deep) t f; goes = λ _.
 at_all : (limits : Limits) → Widens Nothing limits limits
 at_all limits = record {
   brackets = record { stays = λ _. refl; goes = λ h. differ true refl (sym h) };
-  beneath = same_limit Deep limits.beneath;
+  depth = same_limit Deep limits.depth;
   statements = same_limit Many limits.statements;
   names = same_limit Many limits.names;
 }
@@ -51,7 +53,7 @@ at_all limits = record {
 to_uncounted : Widens Counts the_limits uncounted
 to_uncounted = record {
   brackets = record { stays = λ _. refl; goes = λ h. differ true refl (sym h) };
-  beneath = kept Counts Deep (Some 63) refl;
+  depth = kept Counts Deep (Some 64) refl;
   statements = gone Counts Many (Some 4096) refl;
   names = gone Counts Many (Some 512) refl;
 }
@@ -59,7 +61,7 @@ to_uncounted = record {
 to_unlimited : (b : ℕ) → 256 < b → Widens All the_limits (unlimited b)
 to_unlimited b h = record {
   brackets = more All 256 b refl h;
-  beneath = gone All Deep (Some 63) refl;
+  depth = gone All Deep (Some 64) refl;
   statements = gone All Many (Some 4096) refl;
   names = gone All Many (Some 512) refl;
 }
@@ -73,9 +75,12 @@ reads_uncounted = unit_exact Nothing uncounted uncounted (at_all uncounted)
 reads_unlimited : (b : ℕ) → Exact Nothing (g.unit (unlimited b)) never (p.unit (unlimited b)) (p.unit (unlimited b))
 reads_unlimited b = unit_exact Nothing (unlimited b) (unlimited b) (at_all (unlimited b))
 
+anyhow : (ts : Lexemes) (f : Fault) → all_of (p.unit the_limits ts) ≡ Err f → frees All f.cause ≡ false → RefusedAnyhow ts f.left
+anyhow ts f e c b h = unfreed All Nothing (g.unit the_limits) (g.unit (unlimited b)) never (p.unit the_limits) (p.unit (unlimited b)) (p.unit (unlimited b))
+    (unit_exact All the_limits (unlimited b) (to_unlimited b h)) (reads_unlimited b) ts f e c
+
 told : (ts : Lexemes) (f : Fault) → all_of (p.unit the_limits ts) ≡ Err f → (cause : Cause) → f.cause ≡ cause → Told cause ts f.left
-told ts f e Expected c = λ b h. unfreed All Nothing (g.unit the_limits) (g.unit (unlimited b)) never (p.unit the_limits) (p.unit (unlimited b)) (p.unit (unlimited b))
-    (unit_exact All the_limits (unlimited b) (to_unlimited b h)) (reads_unlimited b) ts f e (ap (frees All) c)
+told ts f e Expected c = anyhow ts f e (ap (frees All) c)
 told ts f e Deep c = (
   unfreed Counts Nothing (g.unit the_limits) (g.unit uncounted) never (p.unit the_limits) (p.unit uncounted) (p.unit uncounted)
       (unit_exact Counts the_limits uncounted to_uncounted) reads_uncounted ts f e (ap (frees Counts) c),
@@ -84,6 +89,10 @@ told ts f e Deep c = (
 )
 told ts f e Many c = freed Counts Nothing (g.unit the_limits) (g.unit uncounted) never (p.unit the_limits) (p.unit uncounted) (p.unit uncounted)
     (unit_exact Counts the_limits uncounted to_uncounted) reads_uncounted ts f e (ap (frees Counts) c)
+told ts f e Construct c = anyhow ts f e (ap (frees All) c)
+told ts f e Unknown c = anyhow ts f e (ap (frees All) c)
+told ts f e Twice c = anyhow ts f e (ap (frees All) c)
+told ts f e Form c = anyhow ts f e (ap (frees All) c)
 
 placed_ok : (text : List ℕ) (tokens : List Token) (o : Result Program Fault) (x : Program) → placed text tokens o ≡ Ok x → o ≡ Ok x
 placed_ok text tokens (Ok y) x e = same y x e
@@ -104,9 +113,10 @@ unfolding parsed
 found_by text tokens (Ok x) h = found Nothing (g.unit the_limits) never (p.unit the_limits) (p.unit the_limits) reads_limits (map (lexeme text) tokens) x (placed_ok text tokens _ x h)
 found_by text tokens (Err e) h = tt
 
-pub within_by : (text : List ℕ) (tokens : List Token) (r : Result Program ParseError) → Finds (λ p. p) Memory (parsed text tokens) r → IfOk r Is_within
-within_by text tokens (Ok x) h = unit_within x (map (lexeme text) tokens) (found_by text tokens (Ok x) h)
-within_by text tokens (Err e) h = tt
+pub readable_by : (text : List ℕ) (tokens : List Token) (r : Result Program ParseError) → length text + 1 < 2 ^ 32 → AreSpelled text 0 tokens →
+    Finds (λ p. p) Memory (parsed text tokens) r → IfOk r IsReadable
+readable_by text tokens (Ok x) few spelled h = readable_by_tokens text tokens x few spelled (found_by text tokens (Ok x) h)
+readable_by text tokens (Err e) few spelled h = tt
 
 pub only_by : (text : List ℕ) (tokens : List Token) (r : Result Program ParseError) → Finds (λ p. p) Memory (parsed text tokens) r →
     (x : Program) → g.unit the_limits x (map (lexeme text) tokens) → Finds (λ p. p) Memory (Ok x) r

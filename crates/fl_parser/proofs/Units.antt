@@ -5,7 +5,7 @@ use Rattle.parsing.specs.declared.symbol.Symbol.TheVariants as s
 use Rattle.parsing.specs.declared.cursor.Word.{Word}
 use Rattle.parsing.specs.declared.fault.Cause.TheVariants.{Expected, Many}
 use Rattle.parsing.specs.Freed.{Freed}
-use Rattle.parsing.specs.Limit.{allows}
+use Rattle.parsing.specs.Limit.{allows, less as fewer}
 use Rattle.parsing.specs.Terminal.{same, on, is, reads, names, words}
 use Rattle.parsing.specs.Reading.{Lexemes, sees}
 use Rattle.parsing.specs.Grammar.{Grammar, gives, ◌>>=◌ as ◌⨟◌}
@@ -16,12 +16,13 @@ use Rattle.fl_ast.specs.declared.kind.Intent.TheVariants.{Unsaid, ReadOnly, Writ
 use Rattle.fl_ast.specs.declared.decl.Decl.{Decl}
 use Rattle.fl_parser.specs.declared.stmt.Counted.{Counted}
 use Rattle.fl_parser.specs.Terminals.{kind_by}
-use Rattle.fl_parser.specs.Trees.{Limits, declared, assigned, no_stmts, program}
+use Rattle.fl_parser.specs.Limits.{Limits}
+use Rattle.fl_parser.specs.Trees.{declared, assigned, no_stmts, program}
 use Rattle.fl_parser.specs.Wide.{Widens}
 use Rattle.fl_parser.specs.UnitGrammar as g
 use Rattle.fl_parser.specs.UnitReading as p
 use Rattle.parsing.proofs.Outcomes.{never, sees-never, shrinks_pure, shrinks_seq, Bites}
-use Rattle.parsing.proofs.Exact.{Exact, always_room, room_of, Begins, Meets, pure_exact, seq, shrinks_token}
+use Rattle.parsing.proofs.Exact.{Exact, always_room, room_of, frees_less, Begins, Meets, pure_exact, seq, shrinks_token}
 use Rattle.parsing.proofs.Rules.{narrow, anywhere, either, optional, loop_exact, begins_seq, begins_or, begins_opens, Opens, opens_or, opens_gives, opens_begins, opens_many, meets_never, gives_meets, meets_or}
 use Rattle.parsing.proofs.OnSymbols.{less, wider, among, meets, begins_in, begins_mark, begins_name, begins_by, begins_same_word, mark_exact, name_exact, word_exact, same_word_exact, by_exact, mark_then, bites_mark, bites_name}
 use Rattle.fl_parser.proofs.Exprs.{binds, expr_exact}
@@ -175,7 +176,7 @@ module _ (l : Freed) (limits wide : Limits) (W : Widens l limits wide) where
 
   assign_exact : (c : Counted) → Exact l (g.assign limits c) never (p.assign limits c) (p.assign wide c)
   unfolding g.assign p.assign
-  assign_exact c = seq name_exact (λ x. mark_then s.Equals _ _ _ (λ _. seq (expr_exact l limits.brackets wide.brackets W.brackets limits.beneath wide.beneath W.beneath)
+  assign_exact c = seq name_exact (λ x. mark_then s.Equals _ _ _ (λ _. seq (expr_exact l limits.brackets wide.brackets W.brackets (fewer limits.depth) (fewer wide.depth) (frees_less W.depth))
       (λ e. mark_then s.LineEnd _ _ _ (λ _. pure_exact (assigned c x e)))
       (λ e. meets (same s.LineEnd) binds never _ (begins_seq _ (begins_mark s.LineEnd)) refl refl)))
       (λ x. meets_never never _)
@@ -186,7 +187,7 @@ module _ (l : Freed) (limits wide : Limits) (W : Widens l limits wide) where
 
   assign_bites : (c : Counted) → Bites (p.assign wide c) (on names)
   unfolding p.assign
-  assign_bites c = bites_name _ (λ x. shrinks_seq _ _ (shrinks_token _) (λ _. shrinks_seq _ _ ((expr_exact l limits.brackets wide.brackets W.brackets limits.beneath wide.beneath W.beneath).shrinks)
+  assign_bites c = bites_name _ (λ x. shrinks_seq _ _ (shrinks_token _) (λ _. shrinks_seq _ _ ((expr_exact l limits.brackets wide.brackets W.brackets (fewer limits.depth) (fewer wide.depth) (frees_less W.depth)).shrinks)
       (λ e. shrinks_seq _ _ (shrinks_token _) (λ _. shrinks_pure (assigned c x e)))))
 
   stmts_exact : Exact l (g.stmts limits) (on names) (p.stmts limits) (p.stmts wide)

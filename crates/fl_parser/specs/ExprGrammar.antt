@@ -3,10 +3,10 @@ use Rattle.std.specs.Prelude.{ℕ, zero, suc, Bool, true, false}
 use Rattle.parsing.specs.declared.symbol.Symbol.TheVariants as s
 use Rattle.parsing.specs.Limit.{Limit, allows, less}
 use Rattle.parsing.specs.Terminal.{marked, name, number}
-use Rattle.parsing.specs.Grammar.{Grammar, ◌>>=◌, gives, one, ◌or◌, where_, many}
+use Rattle.parsing.specs.Grammar.{Grammar, ◌>>=◌, gives, one, ◌or◌, where_, left_grouped}
 use Rattle.fl_parser.specs.declared.tree.Measured.{Measured}
 use Rattle.fl_parser.specs.Terminals.{sum_op, product_op}
-use Rattle.fl_parser.specs.Trees.{literal as literal_of, scalar as scalar_of, negation, binary}
+use Rattle.fl_parser.specs.Trees.{literal as literal_of, scalar as scalar_of, negation, binary, may_stand_left}
 
 -- The flag says whether one more bracket may open, and inner is an expression within it.
 -- The limit is on the levels that a tree may have beneath its root.
@@ -36,29 +36,17 @@ module _ (may_open : Bool) (inner : Limit → Grammar Measured) where
   unfoldable pub factor : Limit → Grammar Measured
   factor d = primary d
 
-  -- ("*"|"/") factor
-  unfoldable pub times_one : Limit → Measured → Grammar Measured
-  times_one d l = do
-    op ← one product_op
-    r ← factor (less d)
-    gives (binary op l r)
-
+  -- { ("*"|"/") factor }
   unfoldable pub factors_from : Limit → Measured → Grammar Measured
-  factors_from d = many (λ l. where_ (allows d l.depth) (times_one d l))
+  factors_from = left_grouped product_op binary may_stand_left factor
 
   -- factor { ("*"|"/") factor }
   unfoldable pub term : Limit → Grammar Measured
   term d = factor d >>= factors_from d
 
-  -- ("+"|"-") term
-  unfoldable pub plus_one : Limit → Measured → Grammar Measured
-  plus_one d l = do
-    op ← one sum_op
-    r ← term (less d)
-    gives (binary op l r)
-
+  -- { ("+"|"-") term }
   unfoldable pub terms_from : Limit → Measured → Grammar Measured
-  terms_from d = many (λ l. where_ (allows d l.depth) (plus_one d l))
+  terms_from = left_grouped sum_op binary may_stand_left term
 
   -- "-" term { ("+"|"-") term }
   unfoldable pub negated : Limit → Grammar Measured

@@ -4,10 +4,10 @@ use Rattle.parsing.specs.declared.symbol.Symbol.TheVariants as s
 use Rattle.parsing.specs.declared.fault.Cause.TheVariants.{Deep}
 use Rattle.parsing.specs.Limit.{Limit, allows, less}
 use Rattle.parsing.specs.Terminal.{is, on, marked, names, name, number}
-use Rattle.parsing.specs.Reading.{Parser, ◌>>=◌, pure, token, refuse, choose, within, loop}
+use Rattle.parsing.specs.Reading.{Parser, ◌>>=◌, pure, token, refuse, choose, within, left_grouped}
 use Rattle.fl_parser.specs.declared.tree.Measured.{Measured}
 use Rattle.fl_parser.specs.Terminals.{sum_op, product_op, is_sum_op, is_product_op}
-use Rattle.fl_parser.specs.Trees.{literal as literal_of, scalar as scalar_of, negation, binary}
+use Rattle.fl_parser.specs.Trees.{literal as literal_of, scalar as scalar_of, negation, binary, may_stand_left}
 
 -- The flag says whether one more bracket may open, and inner reads an expression within it.
 -- The limit is on the levels that a tree may have beneath its root.
@@ -35,26 +35,14 @@ module _ (may_open : Bool) (inner : Limit → Parser Measured) where
   unfoldable pub factor : Limit → Parser Measured
   factor d = primary d
 
-  unfoldable pub times_one : Limit → Measured → Parser Measured
-  times_one d l = do
-    op ← token product_op
-    r ← factor (less d)
-    pure (binary op l r)
-
   unfoldable pub factors_from : Limit → Measured → Parser Measured
-  factors_from d = loop is_product_op (λ l. allows d l.depth) Deep (times_one d)
+  factors_from = left_grouped is_product_op product_op binary may_stand_left Deep factor
 
   unfoldable pub term : Limit → Parser Measured
   term d = factor d >>= factors_from d
 
-  unfoldable pub plus_one : Limit → Measured → Parser Measured
-  plus_one d l = do
-    op ← token sum_op
-    r ← term (less d)
-    pure (binary op l r)
-
   unfoldable pub terms_from : Limit → Measured → Parser Measured
-  terms_from d = loop is_sum_op (λ l. allows d l.depth) Deep (plus_one d)
+  terms_from = left_grouped is_sum_op sum_op binary may_stand_left Deep term
 
   unfoldable pub negated : Limit → Parser Measured
   negated d = do

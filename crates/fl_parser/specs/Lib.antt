@@ -1,6 +1,6 @@
-pub mod Depth
 pub mod ExprGrammar
 pub mod ExprReading
+pub mod Limits
 pub mod Nests
 pub mod Parsed
 pub mod Refuses

@@ -1,5 +1,5 @@
 -- The trees that are read.
-use Rattle.std.specs.Prelude.{ℕ, ◌+◌, ◌==◌, max, cond, false, List, [], ◌∷◌, ◌++◌, Option, Some, None}
+use Rattle.std.specs.Prelude.{ℕ, ◌+◌, ◌==◌, max, cond, false, List, [], ◌∷◌, ◌++◌, Bool, Option, Some, None}
 use Rattle.fl_ast.specs.Sizes.{bytes_of}
 use Rattle.fl_ast.specs.declared.kind.Kind.{Kind}
 use Rattle.fl_ast.specs.declared.kind.Kind.TheVariants.{Index, Ring}
@@ -12,20 +12,9 @@ use Rattle.fl_ast.specs.declared.expr.Place.{Place}
 use Rattle.fl_ast.specs.declared.expr.Expr.TheVariants.{Lit, Get, Neg, Bin}
 use Rattle.parsing.specs.declared.cursor.Word.{Word}
 use Rattle.parsing.specs.declared.cursor.Number.{Number}
-use Rattle.parsing.specs.Limit.{Limit}
+use Rattle.parsing.specs.Limit.{Limit, allows}
 use Rattle.fl_parser.specs.declared.tree.Measured.{Measured}
 use Rattle.fl_parser.specs.declared.stmt.Counted.{Counted}
-
--- How much is read: brackets that may be open at once, levels of a tree beneath its root, statements, names that are declared.
-pub record Limits : Type 0 where
-  pub brackets : ℕ
-  pub beneath : Limit
-  pub statements : Limit
-  pub names : Limit
-
--- what the tool reads
-abbrev pub the_limits : Limits
-the_limits = record { brackets = 256; beneath = Some 63; statements = Some 4096; names = Some 512 }
 
 -- ---- expressions with their depths
 
@@ -49,6 +38,10 @@ negation e = record { expr = Neg e.expr; depth = e.depth + 1 }
 
 abbrev pub binary : BinOp → Measured → Measured → Measured
 binary op l r = record { expr = Bin op l.expr r.expr; depth = max l.depth r.depth + 1 }
+
+-- whether the tree may stand left in an operation, whose tree has so many levels beneath its root
+abbrev pub may_stand_left : Limit → Measured → Bool
+may_stand_left d e = allows d e.depth
 
 -- ---- declarations, statements and the unit
 

@@ -7,12 +7,13 @@ use Rattle.fl_ast.specs.declared.kind.Intent.TheVariants.{Unsaid, ReadOnly, Writ
 use Rattle.fl_ast.specs.declared.decl.Decl.{Decl}
 use Rattle.fl_ast.specs.declared.stmt.Program.{Program}
 use Rattle.parsing.specs.declared.symbol.Symbol.TheVariants as s
-use Rattle.parsing.specs.Limit.{allows}
+use Rattle.parsing.specs.Limit.{allows, less}
 use Rattle.parsing.specs.Terminal.{marked, name, word, same_word}
 use Rattle.parsing.specs.Grammar.{Grammar, ◌>>=◌, gives, one, ◌or◌, where_, many}
 use Rattle.fl_parser.specs.declared.stmt.Counted.{Counted}
 use Rattle.fl_parser.specs.Terminals.{kind_number}
-use Rattle.fl_parser.specs.Trees.{Limits, declared, assigned, no_stmts, program}
+use Rattle.fl_parser.specs.Limits.{Limits}
+use Rattle.fl_parser.specs.Trees.{declared, assigned, no_stmts, program}
 use Rattle.fl_parser.specs.ExprGrammar.{expr}
 
 -- ---- declarations
@@ -126,7 +127,7 @@ module _ (limits : Limits) where
   assign c = do
     x ← one name
     equals ← one (marked s.Equals)
-    e ← expr limits.brackets limits.beneath
+    e ← expr limits.brackets (less limits.depth)
     eol ← one (marked s.LineEnd)
     gives (assigned c x e)
 

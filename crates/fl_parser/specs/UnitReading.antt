@@ -8,12 +8,13 @@ use Rattle.fl_ast.specs.declared.decl.Decl.{Decl}
 use Rattle.fl_ast.specs.declared.stmt.Program.{Program}
 use Rattle.parsing.specs.declared.symbol.Symbol.TheVariants as s
 use Rattle.parsing.specs.declared.fault.Cause.TheVariants.{Expected, Many}
-use Rattle.parsing.specs.Limit.{allows}
+use Rattle.parsing.specs.Limit.{allows, less}
 use Rattle.parsing.specs.Terminal.{is, on, marked, names, name, words, word, same_word}
 use Rattle.parsing.specs.Reading.{Parser, ◌>>=◌, pure, token, choose, loop}
 use Rattle.fl_parser.specs.declared.stmt.Counted.{Counted}
 use Rattle.fl_parser.specs.Terminals.{kind_number}
-use Rattle.fl_parser.specs.Trees.{Limits, declared, assigned, no_stmts, program}
+use Rattle.fl_parser.specs.Limits.{Limits}
+use Rattle.fl_parser.specs.Trees.{declared, assigned, no_stmts, program}
 use Rattle.fl_parser.specs.ExprReading.{expr}
 
 -- ---- declarations
@@ -117,7 +118,7 @@ module _ (limits : Limits) where
   assign c = do
     x ← token name
     equals ← token (marked s.Equals)
-    e ← expr limits.brackets limits.beneath
+    e ← expr limits.brackets (less limits.depth)
     eol ← token (marked s.LineEnd)
     pure (assigned c x e)
 

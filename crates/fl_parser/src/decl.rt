@@ -3,11 +3,12 @@
 ghost use Rattle.std.specs.Prelude.{◌≡◌, ◌+◌, ◌<◌, ◌≤◌, IfOk, length};
 ghost use Rattle.parsing.specs.Code.{Reads};
 ghost use Rattle.parsing.specs.Reading as reading;
+ghost use Rattle.fl_parser.specs.Limits.{limits_of};
 ghost use Rattle.fl_parser.specs.Terminals as terminals;
 ghost use Rattle.fl_parser.specs.Trees as trees;
 ghost use Rattle.fl_parser.specs.UnitReading as spec;
 
-use crate::limit::NAMES;
+use crate::limit::{Limits, has_room};
 use fl_ast::{Decl, Intent, Kind, bytes_of};
 use fl_base::{Items, Memory};
 use parsing::{Cause, Cursor, Failure, Symbol, Word};
@@ -159,10 +160,11 @@ fn intent(tokens: &mut Cursor<'_>) -> Result<Intent, Failure>
 fn another_item(
     alloc: Global,
     tokens: &mut Cursor<'_>,
+    limits: Limits,
     head: Head,
     found: Items<Decl>,
 ) -> Result<Items<Decl>, Failure>
-    ensures { Reads (spec.another_item trees.the_limits head.line head.kind head.intent found tokens.old) result tokens.new }
+    ensures { Reads (spec.another_item (limits_of limits) head.line head.kind head.intent found tokens.old) result tokens.new }
 {
     let _comma = tokens.mark(Symbol::Comma)?;
     let word = tokens.name(alloc)?;
@@ -172,26 +174,32 @@ fn another_item(
 fn items(
     alloc: Global,
     tokens: &mut Cursor<'_>,
+    limits: Limits,
     head: Head,
     mut found: Items<Decl>,
 ) -> Result<Items<Decl>, Failure>
-    ensures { Reads (spec.items trees.the_limits head.line head.kind head.intent found tokens.old) result tokens.new }
+    ensures { Reads (spec.items (limits_of limits) head.line head.kind head.intent found tokens.old) result tokens.new }
 {
     for _turn in 0..tokens.len() {
         if !tokens.sees(Symbol::Comma) {
             return Ok(found);
         }
-        if found.len() >= NAMES {
+        if !has_room(limits.names, found.len()) {
             return Err(tokens.refuse(Cause::Many));
         }
-        found = another_item(alloc, tokens, head, found)?;
+        found = another_item(alloc, tokens, limits, head, found)?;
     }
     Ok(found)
 }
 
 #[tactic(auto, unfolding(crate::specs::UnitReading::decl))]
-fn decl(alloc: Global, tokens: &mut Cursor<'_>, found: Items<Decl>) -> Result<Items<Decl>, Failure>
-    ensures { Reads (spec.decl trees.the_limits found tokens.old) result tokens.new }
+fn decl(
+    alloc: Global,
+    tokens: &mut Cursor<'_>,
+    limits: Limits,
+    found: Items<Decl>,
+) -> Result<Items<Decl>, Failure>
+    ensures { Reads (spec.decl (limits_of limits) found tokens.old) result tokens.new }
 {
     let line = tokens.mark(Symbol::Integer)?;
     let kind = kind(tokens)?;
@@ -199,23 +207,23 @@ fn decl(alloc: Global, tokens: &mut Cursor<'_>, found: Items<Decl>) -> Result<It
     let head = Head { line, kind, intent };
     let word = tokens.name(alloc)?;
     let first = declared(alloc, found, head, word)?;
-    let found = items(alloc, tokens, head, first)?;
+    let found = items(alloc, tokens, limits, head, first)?;
     let _eol = tokens.mark(Symbol::LineEnd)?;
     Ok(found)
 }
 
-pub fn decls(alloc: Global, tokens: &mut Cursor<'_>) -> Result<Items<Decl>, Failure>
-    ensures { Reads (spec.decls trees.the_limits tokens.old) result tokens.new }
+pub fn decls(alloc: Global, tokens: &mut Cursor<'_>, limits: Limits) -> Result<Items<Decl>, Failure>
+    ensures { Reads (spec.decls (limits_of limits) tokens.old) result tokens.new }
 {
     let mut found = Items::new(alloc);
     for _turn in 0..tokens.len() {
         if !tokens.sees(Symbol::Integer) {
             return Ok(found);
         }
-        if found.len() >= NAMES {
+        if !has_room(limits.names, found.len()) {
             return Err(tokens.refuse(Cause::Many));
         }
-        found = decl(alloc, tokens, found)?;
+        found = decl(alloc, tokens, limits, found)?;
     }
     Ok(found)
 }

@@ -1,21 +1,46 @@
 //! Refusals and their places.
 
-ghost use Rattle.std.specs.Prelude.{◌≡◌, ◌+◌, ◌<◌, ◌≤◌, ◌-◌, ◌^◌, length, slice_get};
+ghost use Rattle.std.specs.Prelude.{◌≡◌, ◌+◌, ◌<◌, ◌≤◌, ◌-◌, ◌^◌, IfOk, length, slice_get};
+ghost use Rattle.tokens.specs.Spans.{Are_spans};
 ghost use Rattle.fl_parser.specs.Parsed as spec;
 
-use parsing::{Cause, Fault};
-use tokens::Token;
+use fl_base::{Memory, Name};
+use parsing::{Cause, ClauseError, Fault, Symbol, lowered_text, symbol_of};
+use std::alloc::Global;
+use thiserror::Error;
+use tokens::{Token, TokenKind};
 
 /// Why a text isn't parsed.
-#[derive(Debug, Drop)]
+#[derive(Debug, Drop, Error)]
 pub enum ParseError {
     /// The first token, or the end of input, at which no program goes on.
+    #[error("syntax")]
     Expected { line: u32, col: u32 },
+    /// Such a token that begins a statement, and is a word of a construct outside the language.
+    #[error("construct")]
+    Construct { line: u32, which: Name },
+    /// Such a token in a directive. It comes with the directives, and holds no want of memory.
+    #[error("clause")]
+    Clause(ClauseError),
     /// A token with which a program would be too deep.
+    #[error("too deep")]
     Deep { line: u32 },
     /// A token with which a program would have too many statements or names.
+    #[error("too many")]
     Many { line: u32 },
+    #[error("no memory")]
     Memory,
+}
+
+impl From<Memory> for ParseError {
+    ghost use Rattle.std.specs.Prelude.{◌≡◌};
+    ghost use Rattle.fl_parser.specs.declared.error.ParseError.TheVariants.{Memory as wanting};
+
+    ghost from_gives = { λ _ e. e ≡ wanting };
+
+    fn from(_: Memory) -> ParseError {
+        ParseError::Memory
+    }
 }
 
 /// A line and a column, both counted from 1.
@@ -43,11 +68,17 @@ fn end_of(text: &[u8]) -> Position
     Position { line, col }
 }
 
+fn token_at(tokens: &[Token], at: usize) -> Option<Token>
+    ensures { result ≡ slice_get tokens.now at }
+{
+    tokens.get(at).copied()
+}
+
 fn spot_at(text: &[u8], tokens: &[Token], at: usize) -> Position
     requires { length text.now + 1 < 2 ^ 32 }
     ensures { result ≡ spec.spot_of text.now (slice_get tokens.now at) }
 {
-    match tokens.get(at) {
+    match token_at(tokens, at) {
         Some(token) => Position {
             line: token.line,
             col: token.col,
@@ -56,19 +87,95 @@ fn spot_at(text: &[u8], tokens: &[Token], at: usize) -> Position
     }
 }
 
+/// Whether the token with so many before it is the first of its line.
+fn begins_line(tokens: &[Token], before: usize) -> bool
+    ensures { result ≡ spec.begins_line tokens.now before }
+{
+    if before == 0 {
+        return true;
+    }
+    match token_at(tokens, before - 1) {
+        Some(token) => token.kind == TokenKind::LineEnd,
+        None => false,
+    }
+}
+
+fn is_construct(symbol: Symbol) -> bool
+    ensures { result ≡ spec.is_construct symbol }
+{
+    matches!(symbol, Symbol::Construct | Symbol::Call)
+}
+
+/// Whether the token is a word that begins a construct outside the language.
+#[tactic(auto, using(crate::proofs::Spans::span_at))]
+fn names_construct(text: &[u8], tokens: &[Token], at: usize) -> bool
+    requires { Are_spans text.now tokens.now }
+    ensures { result ≡ spec.names_construct text.now (slice_get tokens.now at) }
+{
+    match token_at(tokens, at) {
+        Some(token) => is_construct(symbol_of(text, token)),
+        None => false,
+    }
+}
+
+fn cause_at(text: &[u8], tokens: &[Token], at: usize, found: Cause) -> Cause
+    requires { Are_spans text.now tokens.now }
+    ensures { result ≡ spec.cause_at text.now tokens.now at found }
+{
+    if begins_line(tokens, at) && names_construct(text, tokens, at) {
+        Cause::Construct
+    } else {
+        found
+    }
+}
+
+/// The word that stands there, letters lowered.
+#[tactic(auto, using(crate::proofs::Spans::span_at))]
+fn word_at(alloc: Global, text: &[u8], tokens: &[Token], at: usize) -> Result<Name, Memory>
+    requires { Are_spans text.now tokens.now }
+    ensures { IfOk result (λ word. word ≡ spec.word_of text.now (slice_get tokens.now at)) }
+{
+    match token_at(tokens, at) {
+        Some(token) => lowered_text(alloc, text, token),
+        None => Name::of(alloc, b""),
+    }
+}
+
+fn error_at(
+    alloc: Global,
+    text: &[u8],
+    tokens: &[Token],
+    at: usize,
+    found: Cause,
+) -> Result<ParseError, Memory>
+    requires spans { Are_spans text.now tokens.now }
+    requires fits { length text.now + 1 < 2 ^ 32 }
+    ensures { IfOk result (λ e. e ≡ spec.error_at text.now tokens.now at found) }
+{
+    let Position { line, col } = spot_at(text, tokens, at);
+    let word = word_at(alloc, text, tokens, at)?;
+    Ok(match cause_at(text, tokens, at, found) {
+        Cause::Expected => ParseError::Expected { line, col },
+        Cause::Deep => ParseError::Deep { line },
+        Cause::Many => ParseError::Many { line },
+        Cause::Construct => ParseError::Construct { line, which: word },
+        Cause::Unknown => ParseError::Clause(ClauseError::Unknown { line, word }),
+        Cause::Twice => ParseError::Clause(ClauseError::Twice { line, name: word }),
+        Cause::Form => ParseError::Clause(ClauseError::Form { line }),
+    })
+}
+
 /// The error of a refused token.
-pub fn error_of(text: &[u8], tokens: &[Token], fault: Fault) -> ParseError
-    requires { length text.now + 1 < 2 ^ 32 }
-    ensures { result ≡ spec.error_of text.now tokens.now fault }
+pub fn error_of(
+    alloc: Global,
+    text: &[u8],
+    tokens: &[Token],
+    fault: Fault,
+) -> Result<ParseError, Memory>
+    requires spans { Are_spans text.now tokens.now }
+    requires fits { length text.now + 1 < 2 ^ 32 }
+    ensures { IfOk result (λ e. e ≡ spec.error_of text.now tokens.now fault) }
 {
     let at = tokens.len().saturating_sub(fault.left);
-    let spot = spot_at(text, tokens, at);
-    match fault.cause {
-        Cause::Expected => ParseError::Expected {
-            line: spot.line,
-            col: spot.col,
-        },
-        Cause::Deep => ParseError::Deep { line: spot.line },
-        Cause::Many => ParseError::Many { line: spot.line },
-    }
+    error_at(alloc, text, tokens, at, fault.cause)
 }

@@ -6,6 +6,7 @@ ghost use Rattle.parsing.specs.Reading as reading;
 ghost use Rattle.parsing.specs.Terminal as terminal;
 ghost use Rattle.fl_parser.specs.ExprReading as spec;
 ghost use Rattle.fl_parser.specs.Terminals as terminals;
+ghost use Rattle.fl_parser.specs.Trees as trees;
 ghost use Rattle.fl_parser.specs.Nests.{Nests};
 
 use crate::tree::{Measured, binary, literal, negation, scalar};
@@ -105,7 +106,7 @@ impl<F: Fn(Global, &mut Cursor<'_>, usize, usize) -> Result<Measured, Failure>> 
         ensures depth { IfOk result (λ x. x.depth ≡ 1) }
     {
         let word = tokens.name(self.alloc)?;
-        Ok(scalar(self.alloc, word))
+        Ok(scalar(self.alloc, word)?)
     }
 
     #[tactic(auto, unfolding(crate::specs::ExprReading::literal))]
@@ -114,7 +115,7 @@ impl<F: Fn(Global, &mut Cursor<'_>, usize, usize) -> Result<Measured, Failure>> 
         ensures depth { IfOk result (λ x. x.depth ≡ 1) }
     {
         let number = tokens.number()?;
-        Ok(literal(number))
+        Ok(literal(self.alloc, number)?)
     }
 
     #[tactic(auto, unfolding(crate::specs::ExprReading::primary))]
@@ -146,13 +147,12 @@ impl<F: Fn(Global, &mut Cursor<'_>, usize, usize) -> Result<Measured, Failure>> 
         self.primary(tokens, d)
     }
 
-    #[tactic(auto, unfolding(crate::specs::ExprReading::times_one))]
     fn times_one(&self, tokens: &mut Cursor<'_>, d: usize, l: Measured) -> Result<Measured, Failure>
         requires nests { Nests self.now.brackets (F.pre self.now.expr) (F.post self.now.expr) }
         requires few { d < 2 ^ 32 }
         requires shallow { l.depth ≤ d }
         requires some { 0 < d }
-        ensures reads { Reads (spec.times_one (nat_lt 0 self.now.brackets) (spec.below self.now.brackets) (Some d) l tokens.old) result tokens.new }
+        ensures reads { Reads (reading.grouped terminals.product_op trees.binary (spec.factor (nat_lt 0 self.now.brackets) (spec.below self.now.brackets)) (Some d) l tokens.old) result tokens.new }
         ensures depth { IfOk result (λ x. (0 < x.depth) × (x.depth ≤ d + 1)) }
     {
         let op = product_op(tokens)?;
@@ -196,13 +196,12 @@ impl<F: Fn(Global, &mut Cursor<'_>, usize, usize) -> Result<Measured, Failure>> 
         self.factors_from(tokens, d, first)
     }
 
-    #[tactic(auto, unfolding(crate::specs::ExprReading::plus_one))]
     fn plus_one(&self, tokens: &mut Cursor<'_>, d: usize, l: Measured) -> Result<Measured, Failure>
         requires nests { Nests self.now.brackets (F.pre self.now.expr) (F.post self.now.expr) }
         requires few { d < 2 ^ 32 }
         requires shallow { l.depth ≤ d }
         requires some { 0 < d }
-        ensures reads { Reads (spec.plus_one (nat_lt 0 self.now.brackets) (spec.below self.now.brackets) (Some d) l tokens.old) result tokens.new }
+        ensures reads { Reads (reading.grouped terminals.sum_op trees.binary (spec.term (nat_lt 0 self.now.brackets) (spec.below self.now.brackets)) (Some d) l tokens.old) result tokens.new }
         ensures depth { IfOk result (λ x. (0 < x.depth) × (x.depth ≤ d + 1)) }
     {
         let op = sum_op(tokens)?;

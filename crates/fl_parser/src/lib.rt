@@ -11,4 +11,5 @@ mod tree;
 mod unit;
 
 pub use error::ParseError;
+pub use parsing::ClauseError;
 pub use text::parse;

@@ -2,11 +2,12 @@
 
 ghost use Rattle.std.specs.Prelude.{◌≡◌, ◌+◌, ◌<◌, ◌≤◌, ◌^◌, IfOk};
 ghost use Rattle.parsing.specs.Code.{Reads};
+ghost use Rattle.fl_parser.specs.Limits.{limits_of};
 ghost use Rattle.fl_parser.specs.Trees as trees;
 ghost use Rattle.fl_parser.specs.UnitReading as spec;
 
 use crate::expr::expr;
-use crate::limit::{BENEATH, BRACKETS, STATEMENTS};
+use crate::limit::{Limits, has_room};
 use crate::tree::Measured;
 use fl_ast::{Place, Stmt};
 use fl_base::{Items, Memory};
@@ -35,7 +36,7 @@ fn assigned(
     target: Word,
     value: Measured,
 ) -> Result<Counted, Memory>
-    requires { found.count < 2 ^ 32 }
+    requires { found.count + 1 < 2 ^ 64 }
     ensures { IfOk result (λ x. x ≡ trees.assigned found target value) }
 {
     found.stmts.push(Stmt::Assign {
@@ -45,37 +46,49 @@ fn assigned(
             name: target.name,
             subscripts: Items::new(alloc),
         },
-        value: value.expr,
+        value: value.expr.into_inner(),
     })?;
     found.count += 1;
     Ok(found)
 }
 
 #[tactic(auto, unfolding(crate::specs::UnitReading::assign))]
-fn assign(alloc: Global, tokens: &mut Cursor<'_>, found: Counted) -> Result<Counted, Failure>
-    requires { found.count < 4096 }
-    ensures reads { Reads (spec.assign trees.the_limits found tokens.old) result tokens.new }
-    ensures count { IfOk result (λ x. x.count ≤ 4096) }
+fn assign(
+    alloc: Global,
+    tokens: &mut Cursor<'_>,
+    limits: Limits,
+    found: Counted,
+) -> Result<Counted, Failure>
+    requires few { found.count + 1 < 2 ^ 64 }
+    requires shallow { limits.depth < 2 ^ 32 }
+    ensures reads { Reads (spec.assign (limits_of limits) found tokens.old) result tokens.new }
+    ensures count { IfOk result (λ x. x.count ≡ found.count + 1) }
 {
     let target = tokens.name(alloc)?;
     let _equals = tokens.mark(Symbol::Equals)?;
-    let value = expr(alloc, tokens, BRACKETS, BENEATH)?;
+    let value = expr(
+        alloc,
+        tokens,
+        limits.brackets,
+        limits.depth.saturating_sub(1),
+    )?;
     let _eol = tokens.mark(Symbol::LineEnd)?;
     Ok(assigned(alloc, found, target, value)?)
 }
 
-pub fn stmts(alloc: Global, tokens: &mut Cursor<'_>) -> Result<Counted, Failure>
-    ensures { Reads (spec.stmts trees.the_limits tokens.old) result tokens.new }
+pub fn stmts(alloc: Global, tokens: &mut Cursor<'_>, limits: Limits) -> Result<Counted, Failure>
+    requires { limits.depth < 2 ^ 32 }
+    ensures { Reads (spec.stmts (limits_of limits) tokens.old) result tokens.new }
 {
     let mut found = no_stmts(alloc);
     for _turn in 0..tokens.len() {
         if !tokens.sees_name() {
             return Ok(found);
         }
-        if found.count >= STATEMENTS {
+        if !has_room(limits.statements, found.count) {
             return Err(tokens.refuse(Cause::Many));
         }
-        found = assign(alloc, tokens, found)?;
+        found = assign(alloc, tokens, limits, found)?;
     }
     Ok(found)
 }

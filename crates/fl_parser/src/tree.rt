@@ -9,7 +9,7 @@ use std::alloc::Global;
 /// An expression and the depth of its tree.
 #[derive(Drop)]
 pub struct Measured {
-    pub expr: Expr,
+    pub expr: Boxed<Expr>,
     pub depth: usize,
 }
 
@@ -30,37 +30,40 @@ fn kind_of(suffix: Option<u8>) -> Kind
     }
 }
 
-pub fn literal(number: Number) -> Measured
-    ensures { result ≡ trees.literal number }
+pub fn literal(alloc: Global, number: Number) -> Result<Measured, Memory>
+    ensures { IfOk result (λ x. x ≡ trees.literal number) }
 {
-    Measured {
-        expr: Expr::Lit {
-            value: number.value,
-            kind: kind_of(number.suffix),
-        },
+    let expr = Expr::Lit {
+        value: number.value,
+        kind: kind_of(number.suffix),
+    };
+    Ok(Measured {
+        expr: Boxed::new(alloc, expr)?,
         depth: 1,
-    }
+    })
 }
 
-pub fn scalar(alloc: Global, word: Word) -> Measured
-    ensures { result ≡ trees.scalar word }
+pub fn scalar(alloc: Global, word: Word) -> Result<Measured, Memory>
+    ensures { IfOk result (λ x. x ≡ trees.scalar word) }
 {
-    Measured {
-        expr: Expr::Get(Place {
-            name: word.name,
-            subscripts: Items::new(alloc),
-        }),
+    let expr = Expr::Get(Place {
+        name: word.name,
+        subscripts: Items::new(alloc),
+    });
+    Ok(Measured {
+        expr: Boxed::new(alloc, expr)?,
         depth: 1,
-    }
+    })
 }
 
 pub fn negation(alloc: Global, e: Measured) -> Result<Measured, Memory>
     requires { e.depth < 2 ^ 33 }
     ensures { IfOk result (λ x. x ≡ trees.negation e) }
 {
+    let depth = e.depth + 1;
     Ok(Measured {
-        expr: Expr::Neg(Boxed::new(alloc, e.expr)?),
-        depth: e.depth + 1,
+        expr: Boxed::new(alloc, Expr::Neg(e.expr))?,
+        depth,
     })
 }
 
@@ -70,12 +73,13 @@ pub fn binary(alloc: Global, op: BinOp, l: Measured, r: Measured) -> Result<Meas
     ensures { IfOk result (λ x. x ≡ trees.binary op l r) }
 {
     let depth = deepest(l.depth, r.depth) + 1;
+    let expr = Expr::Bin {
+        op,
+        left: l.expr,
+        right: r.expr,
+    };
     Ok(Measured {
-        expr: Expr::Bin {
-            op,
-            left: Boxed::new(alloc, l.expr)?,
-            right: Boxed::new(alloc, r.expr)?,
-        },
+        expr: Boxed::new(alloc, expr)?,
         depth,
     })
 }

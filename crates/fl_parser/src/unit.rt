@@ -1,11 +1,12 @@
 //! The unit.
 
-ghost use Rattle.std.specs.Prelude.{◌≡◌, ◌++◌, ◌∷◌, [], IfOk};
+ghost use Rattle.std.specs.Prelude.{◌≡◌, ◌<◌, ◌^◌, ◌++◌, ◌∷◌, [], IfOk};
 ghost use Rattle.parsing.specs.Code.{Reads};
-ghost use Rattle.fl_parser.specs.Trees as trees;
+ghost use Rattle.fl_parser.specs.Limits.{limits_of};
 ghost use Rattle.fl_parser.specs.UnitReading as spec;
 
 use crate::decl::decls;
+use crate::limit::Limits;
 use crate::stmt::stmts;
 use fl_ast::Program;
 use fl_base::{Items, Memory, Name};
@@ -134,16 +135,17 @@ fn end_unit(tokens: &mut Cursor<'_>, name: &Name) -> Result<u32, Failure>
 
 /// A unit.
 #[tactic(auto, unfolding(crate::specs::UnitReading::unit))]
-pub fn unit(alloc: Global, tokens: &mut Cursor<'_>) -> Result<Program, Failure>
-    ensures { Reads (spec.unit trees.the_limits tokens.old) result tokens.new }
+pub fn unit(alloc: Global, tokens: &mut Cursor<'_>, limits: Limits) -> Result<Program, Failure>
+    requires { limits.depth < 2 ^ 32 }
+    ensures { Reads (spec.unit (limits_of limits) tokens.old) result tokens.new }
 {
     let line = tokens.mark(Symbol::Subroutine)?;
     let name = tokens.word(alloc)?.name;
     let args = args(alloc, tokens)?;
     let _eol = tokens.mark(Symbol::LineEnd)?;
     implicit(tokens)?;
-    let decls = decls(alloc, tokens)?;
-    let body = stmts(alloc, tokens)?.stmts;
+    let decls = decls(alloc, tokens, limits)?;
+    let body = stmts(alloc, tokens, limits)?.stmts;
     let _end = end_unit(tokens, &name)?;
     Ok(Program {
         line,

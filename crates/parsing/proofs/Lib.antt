@@ -4,3 +4,4 @@ pub mod Outcomes
 pub mod Rules
 pub mod Table
 pub mod Whole
+pub mod Grouped

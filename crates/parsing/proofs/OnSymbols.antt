@@ -304,7 +304,7 @@ bites_by read f F = bites_seq (token (by read)) f (on (reads read)) (bites_token
 
 -- ---- what words and numbers have for symbols
 
-abbrev every_entry : (Symbol → Bool) → List Entry → Bool
+abbrev pub every_entry : (Symbol → Bool) → List Entry → Bool
 every_entry f [] = true
 every_entry f (e ∷ es) = f e.1 && every_entry f es
 
@@ -312,7 +312,7 @@ of_cond : (f : Symbol → Bool) (b : Bool) (a c : Symbol) → f a ≡ true → f
 of_cond f true a c h k = h
 of_cond f false a c h k = k
 
-look_up_is : (f : Symbol → Bool) (table : List Entry) (bytes : List ℕ) (otherwise : Symbol) → every_entry f table ≡ true → f otherwise ≡ true → f (look_up table bytes otherwise) ≡ true
+pub look_up_is : (f : Symbol → Bool) (table : List Entry) (bytes : List ℕ) (otherwise : Symbol) → every_entry f table ≡ true → f otherwise ≡ true → f (look_up table bytes otherwise) ≡ true
 look_up_is f [] bytes otherwise h k = k
 look_up_is f (e ∷ es) bytes otherwise h k =
     of_cond f (bytes_eq bytes (str_to_ascii_lowercase e.0)) e.1 (look_up es bytes otherwise) (and_l (f e.1) (every_entry f es) h) (look_up_is f es bytes otherwise (and_r (f e.1) (every_entry f es) h) k)

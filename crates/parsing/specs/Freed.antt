@@ -1,7 +1,7 @@
 -- Which limits are taken away to tell why a token is refused.
 use Rattle.std.specs.Prelude.{◌≡◌, Bool, true, false, None}
 use Rattle.parsing.specs.declared.fault.Cause.{Cause}
-use Rattle.parsing.specs.declared.fault.Cause.TheVariants.{Expected, Many}
+use Rattle.parsing.specs.declared.fault.Cause.TheVariants.{Deep, Many}
 use Rattle.parsing.specs.Limit.{Limit}
 
 pub data Freed : Type 0 where
@@ -16,8 +16,9 @@ abbrev pub frees : Freed → Cause → Bool
 frees Nothing cause = false
 frees Counts Many = true
 frees Counts _ = false
-frees All Expected = false
-frees All _ = true
+frees All Deep = true
+frees All Many = true
+frees All _ = false
 
 -- the limit with this cause, and what it is where these are taken away
 pub record Frees (l : Freed) (cause : Cause) (limit wide : Limit) : Type 0 where

@@ -1,6 +1,7 @@
 -- Grammars: which lexemes spell which value. No order of reading, no rest and no refusal is in them.
 use Rattle.std.specs.Prelude.{◌≡◌, ℕ, zero, suc, Bool, true, [], ◌∷◌, ◌++◌, Option, Some, ◌⊎◌}
 use Rattle.tokens.specs.Lexeme.{Lexeme}
+use Rattle.parsing.specs.Limit.{Limit, less}
 use Rattle.parsing.specs.Reading.{Lexemes}
 
 abbrev pub Grammar : Type 0 → Type 1
@@ -36,3 +37,12 @@ times step (suc n) left = step left >>= times step n
 -- any number of times
 abbrev pub many : {A : Type 0} → (A → Grammar A) → A → Grammar A
 many step left = λ x us. (n : ℕ) × times step n left x us
+
+-- op operand, behind what stands left
+abbrev pub grouped : {O A : Type 0} → (Lexeme → Option O) → (O → A → A → A) → (Limit → Grammar A) → Limit → A → Grammar A
+grouped op combine operand limit left =
+    one op >>= (λ o. operand (less limit) >>= (λ right. gives (combine o left right)))
+
+-- { op operand } behind what stands left, grouped from the left, each where the limit has room for what stands before it
+abbrev pub left_grouped : {O A : Type 0} → (Lexeme → Option O) → (O → A → A → A) → (Limit → A → Bool) → (Limit → Grammar A) → Limit → A → Grammar A
+left_grouped op combine room operand limit = many (λ left. where_ (room limit left) (grouped op combine operand limit left))

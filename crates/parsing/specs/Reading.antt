@@ -6,6 +6,7 @@ use Rattle.parsing.specs.declared.fault.Cause.{Cause}
 use Rattle.parsing.specs.declared.fault.Cause.TheVariants.{Expected}
 use Rattle.parsing.specs.declared.fault.Fault.{Fault}
 use Rattle.parsing.specs.Symbol.{symbol_of}
+use Rattle.parsing.specs.Limit.{Limit, less}
 
 abbrev pub Lexemes : Type 0
 Lexemes = List Lexeme
@@ -72,3 +73,12 @@ turns test room cause step (suc n) left = choose test (within (room left) cause 
 -- the same as often as the tokens go; each step takes one at least
 abbrev pub loop : {A : Type 0} → (Lexeme → Bool) → (A → Bool) → Cause → (A → Parser A) → A → Parser A
 loop test room cause step left = λ ts. turns test room cause step (length ts) left ts
+
+-- an operation and its right operand, behind what stands left
+abbrev pub grouped : {O A : Type 0} → (Lexeme → Option O) → (O → A → A → A) → (Limit → Parser A) → Limit → A → Parser A
+grouped op combine operand limit left =
+    token op >>= (λ o. operand (less limit) >>= (λ right. pure (combine o left right)))
+
+-- the same as often as operations follow, grouped from the left
+abbrev pub left_grouped : {O A : Type 0} → (Lexeme → Bool) → (Lexeme → Option O) → (O → A → A → A) → (Limit → A → Bool) → Cause → (Limit → Parser A) → Limit → A → Parser A
+left_grouped test op combine room cause operand limit = loop test (room limit) cause (grouped op combine operand limit)

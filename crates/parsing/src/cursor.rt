@@ -3,6 +3,7 @@ ghost use Rattle.std.specs.Str.{str_to_ascii_lowercase};
 ghost use Rattle.tokens.specs.Lexeme.{lexeme};
 ghost use Rattle.tokens.specs.Spans.{Are_spans};
 ghost use Rattle.parsing.specs.Reading as reading;
+ghost use Rattle.parsing.specs.Symbol as symbol;
 ghost use Rattle.parsing.specs.Terminal as terminal;
 ghost use Rattle.parsing.specs.Code.{Reads};
 
@@ -71,13 +72,31 @@ fn is_same(text: &[u8], other: &[u8]) -> bool
     text.eq_ignore_ascii_case(other)
 }
 
+/// The symbol of a token of the text.
+pub fn symbol_of(text: &[u8], token: Token) -> Symbol
+    requires start { token.start ≤ token.end }
+    requires end { token.end ≤ length text.now }
+    ensures { result ≡ symbol.symbol_of (lexeme text.now token) }
+{
+    Symbol::of(token.kind, text_of(text, token))
+}
+
+/// The bytes of a token of the text, all letters in lower case.
+pub fn lowered_text(alloc: Global, text: &[u8], token: Token) -> Result<Name, Memory>
+    requires start { token.start ≤ token.end }
+    requires end { token.end ≤ length text.now }
+    ensures { IfOk result (λ name. name ≡ (lexeme text.now token).bytes) }
+{
+    lowered(alloc, text_of(text, token))
+}
+
 fn first_symbol(text: &[u8], rest: &[Token]) -> Option<Symbol>
     requires { Are_spans text.now rest.now }
     ensures { result ≡ reading.ahead (map (lexeme text.now) rest.now) }
 {
     match rest {
         [] => None,
-        [token, ..] => Some(Symbol::of(token.kind, text_of(text, *token))),
+        [token, ..] => Some(symbol_of(text, *token)),
     }
 }
 

@@ -1,4 +1,5 @@
-use fl_base::Memory;
+use fl_base::{Memory, Name};
+use thiserror::Error;
 
 /// Why a token is refused.
 #[derive(Clone, Copy, Debug, PartialEq, Eq)]
@@ -9,6 +10,14 @@ pub enum Cause {
     Deep,
     /// What goes on so are too many.
     Many,
+    /// A statement begins there with a word of a construct outside the language.
+    Construct,
+    /// A word of a directive that begins no clause. No reader gives it yet.
+    Unknown,
+    /// A name or a clause of a directive that stands twice. No reader gives it yet.
+    Twice,
+    /// A token of a directive at which none goes on. No reader gives it yet.
+    Form,
 }
 
 /// A refused token. `left` counts the tokens from it on; it is 0 at the end of input.
@@ -19,9 +28,11 @@ pub struct Fault {
 }
 
 /// Why a reader gives nothing.
-#[derive(Debug, Drop)]
+#[derive(Debug, Drop, Error)]
 pub enum Failure {
+    #[error("no memory")]
     Memory,
+    #[error("refused")]
     Refused(Fault),
 }
 
@@ -34,4 +45,20 @@ impl From<Memory> for Failure {
     fn from(_: Memory) -> Failure {
         Failure::Memory
     }
+}
+
+/// Why the clauses of a directive aren't read.
+#[derive(Debug, Drop, Error)]
+pub enum ClauseError {
+    /// A word outside brackets that is no word of a directive and begins no clause.
+    #[error("unknown clause")]
+    Unknown { line: u32, word: Name },
+    /// A name in two clauses of its sharing or twice in one, or a clause that stands twice.
+    #[error("clause twice")]
+    Twice { line: u32, name: Name },
+    /// The first token at which no directive goes on.
+    #[error("clause form")]
+    Form { line: u32 },
+    #[error("no memory")]
+    Memory,
 }

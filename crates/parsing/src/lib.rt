@@ -5,6 +5,6 @@ mod cursor;
 mod fault;
 mod symbol;
 
-pub use cursor::{Cursor, Number, Word};
-pub use fault::{Cause, Failure, Fault};
+pub use cursor::{Cursor, Number, Word, lowered_text, symbol_of};
+pub use fault::{Cause, ClauseError, Failure, Fault};
 pub use symbol::Symbol;

@@ -17,7 +17,9 @@ use Rattle.fl_types.specs.declared.typed.TypeError.TheVariants as typing
 use Rattle.fl_types.specs.Supported.{is_ring_argument}
 use Rattle.fl_types.specs.Checked.{checked}
 use Rattle.program_stage.specs.Lexing.{say_lex, lexed_stage}
-use Rattle.program_stage.specs.Parsing.{say_parse, parsed_stage}
+use Rattle.parsing.specs.declared.fault.ClauseError.{ClauseError}
+use Rattle.parsing.specs.declared.fault.ClauseError.TheVariants as clause
+use Rattle.program_stage.specs.Parsing.{say_parse, say_clause, parsed_stage}
 use Rattle.program_stage.specs.Typing.{say_type, typed_stage}
 use Rattle.program_stage.specs.Programs.{source_stage, program_stage}
 use Rattle.program_stage.specs.Names.{names_stage}
@@ -30,8 +32,16 @@ never_lex status r m (lexing.OpenContinuation line) h = r h
 never_lex status r m (lexing.WideLiteral line) h = r h
 never_lex status r m lexing.Memory h = m h
 
+never_clause : (status : Status) → (Refused ≡ status → ⊥) → (NoMemory ≡ status → ⊥) → (e : ClauseError) → (say_clause e).0 ≡ status → ⊥
+never_clause status r m (clause.Unknown line word) h = r h
+never_clause status r m (clause.Twice line name) h = r h
+never_clause status r m (clause.Form line) h = r h
+never_clause status r m clause.Memory h = m h
+
 never_parse : (status : Status) → (Refused ≡ status → ⊥) → (NoMemory ≡ status → ⊥) → (e : ParseError) → (say_parse e).0 ≡ status → ⊥
 never_parse status r m (parsing.Expected line col) h = r h
+never_parse status r m (parsing.Construct line word) h = r h
+never_parse status r m (parsing.Clause error) h = never_clause status r m error h
 never_parse status r m (parsing.Deep line) h = r h
 never_parse status r m (parsing.Many line) h = r h
 never_parse status r m parsing.Memory h = m h

@@ -3,6 +3,7 @@ ghost use Rattle.ending.specs.Stage.{IsPart, IsRefusal};
 ghost use Rattle.fl_lexer.specs.declared.error.LexError.TheVariants.{Memory as memory};
 ghost use Rattle.program_stage.specs.Lexing.{say_lex, lexed_stage};
 ghost use Rattle.tokens.specs.Spans.{Are_spans};
+ghost use Rattle.tokens.specs.Spelled.{AreSpelled};
 
 use crate::line::{refused_column, refused_line};
 use ending::Early;
@@ -29,6 +30,7 @@ pub(crate) fn tokens_of(alloc: Global, text: &[u8]) -> Result<Vec<Token>, Early>
     requires { length text.now < u32.MAX }
     ensures part { IsPart (λ tokens. tokens.items) (lexed_stage text.now) result }
     ensures spans { IfOk result (λ tokens. Are_spans text.now tokens.items) }
+    ensures spelled { IfOk result (λ tokens. AreSpelled text.now 0 tokens.items) }
 {
     match lex(alloc, text) {
         Ok(tokens) => Ok(tokens),

@@ -1,9 +1,10 @@
-ghost use Rattle.std.specs.Prelude.{◌≡◌, IfOk};
+ghost use Rattle.std.specs.Prelude.{◌≡◌, ◌++◌, IfOk};
 ghost use Rattle.ending.specs.declared.status.Status.TheVariants.{Refused};
 ghost use Rattle.ending.specs.Stage.{IsSaid};
 ghost use Rattle.program_stage.specs.Lines.{refused_line as refused_line_lem, refused_column as refused_column_lem};
 
 use ending::{Due, Early, Status};
+use fl_base::Name;
 use itoa::Buffer;
 use std::alloc::{AllocError, Global};
 
@@ -44,6 +45,24 @@ fn column_text(alloc: Global, line: u32, col: u32, phrase: &[u8]) -> Result<Vec<
     text.extend_from_slice(phrase)?;
     text.extend_from_slice(b"\n")?;
     Ok(text)
+}
+
+fn with_word(alloc: Global, phrase: &[u8], word: &Name) -> Result<Vec<u8>, AllocError>
+    ensures { IfOk result (λ text. text.items ≡ phrase.now ++ word.now) }
+{
+    let mut text = Vec::from_slice(alloc, phrase)?;
+    text.extend_from_slice(word.bytes())?;
+    Ok(text)
+}
+
+/// A refusal at a line of the program, for a word of it.
+pub(crate) fn refused_word(alloc: Global, line: u32, phrase: &[u8], word: &Name) -> Early
+    ensures { IsSaid Refused (refused_line_lem line (phrase.now ++ word.now)) result }
+{
+    match with_word(alloc, phrase, word) {
+        Ok(whole) => refused_line(alloc, line, &whole),
+        Err(_) => Early::Memory,
+    }
 }
 
 /// A refusal at a line and a column of the program.

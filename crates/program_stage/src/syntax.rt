@@ -1,15 +1,32 @@
 ghost use Rattle.std.specs.Prelude.{◌+◌, ◌^◌, ◌<◌, length};
 ghost use Rattle.ending.specs.Stage.{IsPart, IsRefusal};
 ghost use Rattle.fl_parser.specs.declared.error.ParseError.TheVariants.{Memory as memory};
-ghost use Rattle.program_stage.specs.Parsing.{say_parse, parsed_stage};
+ghost use Rattle.parsing.specs.declared.fault.ClauseError.TheVariants.{Memory as wanting};
+ghost use Rattle.program_stage.specs.Parsing.{say_parse, say_clause, parsed_stage};
 ghost use Rattle.tokens.specs.Spans.{Are_spans};
+ghost use Rattle.tokens.specs.Spelled.{AreSpelled};
 
+use crate::line::{refused_line, refused_word};
 use crate::not_built::not_built;
 use ending::Early;
 use fl_ast::Program;
-use fl_parser::{ParseError, parse};
+use fl_parser::{ClauseError, ParseError, parse};
 use std::alloc::Global;
 use tokens::Token;
+
+/// What is said of a directive that isn't read.
+fn clause_refused(alloc: Global, error: ClauseError) -> Early
+    ensures { IsRefusal wanting say_clause error result }
+{
+    match error {
+        ClauseError::Unknown { line, word } => {
+            refused_word(alloc, line, b"unknown clause ", &word)
+        }
+        ClauseError::Twice { line, name } => refused_word(alloc, line, b"clause twice ", &name),
+        ClauseError::Form { line } => refused_line(alloc, line, b"clause form"),
+        ClauseError::Memory => Early::Memory,
+    }
+}
 
 /// What is said of tokens that aren't parsed.
 fn parse_refused(alloc: Global, error: ParseError) -> Early
@@ -19,6 +36,8 @@ fn parse_refused(alloc: Global, error: ParseError) -> Early
         ParseError::Expected { .. } | ParseError::Deep { .. } | ParseError::Many { .. } => {
             not_built(alloc)
         }
+        ParseError::Construct { line, which } => refused_word(alloc, line, b"construct ", &which),
+        ParseError::Clause(error) => clause_refused(alloc, error),
         ParseError::Memory => Early::Memory,
     }
 }
@@ -27,6 +46,7 @@ fn parse_refused(alloc: Global, error: ParseError) -> Early
 pub(crate) fn program_of(alloc: Global, text: &[u8], tokens: &[Token]) -> Result<Program, Early>
     requires spans { Are_spans text.now tokens.now }
     requires fits { length text.now + 1 < 2 ^ 32 }
+    requires spelled { AreSpelled text.now 0 tokens.now }
     ensures { IsPart (λ program. program) (parsed_stage text.now tokens.now) result }
 {
     match parse(alloc, text, tokens) {

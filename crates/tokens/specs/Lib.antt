@@ -1,2 +1,3 @@
 pub mod Lexeme
 pub mod Spans
+pub mod Spelled

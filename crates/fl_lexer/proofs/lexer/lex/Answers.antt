@@ -1,4 +1,4 @@
-use Rattle.fl_lexer.proofs.Promises.{finds_spelled, finds_all, finds_in_order, finds_spans, finds_none, finds_refused}
+use Rattle.fl_lexer.proofs.Promises.{finds_spelled, finds_all, finds_in_order, finds_spans, finds_spelled_in_order, finds_none, finds_refused}
 use Rattle.fl_lexer.proofs.lexer.lex.Goals as goal
 
 pub returns-clause-found : goal.returns-clause-found
@@ -12,6 +12,9 @@ returns-clause-in_order c = finds_in_order c.args.text.now _ c.tokens_of.ensures
 
 pub returns-clause-spans : goal.returns-clause-spans
 returns-clause-spans c = finds_spans c.args.text.now _ c.tokens_of.ensures
+
+pub returns-clause-spelled : goal.returns-clause-spelled
+returns-clause-spelled c = finds_spelled_in_order c.args.text.now _ c.tokens_of.ensures
 
 pub returns-clause-accepted : goal.returns-clause-accepted
 returns-clause-accepted c = finds_none c.args.text.now _ c.tokens_of.ensures

@@ -1,7 +1,7 @@
-use Rattle.std.proofs.Common.{◌+◌, rules, arith, Some}
+use Rattle.std.proofs.Common.{◌+◌, rules, arith}
 use Rattle.std.proofs.lemmas.Grind.{common_steps}
 use Rattle.parsing.specs.declared.fault.Cause.TheVariants.{Many}
-use Rattle.fl_parser.specs.Trees.{the_limits}
+use Rattle.fl_parser.specs.Limits.{limits_of}
 use Rattle.parsing.specs.Terminal.{on, names}
 use Rattle.parsing.specs.Limit.{allows}
 use Rattle.parsing.specs.Reading.{turns}
@@ -15,6 +15,6 @@ loop-turn-init c = first_of (search rules, grind (arith, common_steps))
 
 pub loop-turn-preserved : goal.loop-turn-preserved
 loop-turn-preserved c =
-    let e = one_more (λ n. turns (on names) (λ x. allows (Some 4096) (x.count + 1)) Many (spec.assign the_limits) n c.loop-turn.found c.loop-turn.tokens)
+    let e = one_more (λ n. turns (on names) (λ x. allows (limits_of c.args.limits).statements (x.count + 1)) Many (spec.assign (limits_of c.args.limits)) n c.loop-turn.found c.loop-turn.tokens)
     _ c.loop-turn._turn c.loop-turn-test.true c.loop-turn.invariant.reads in
     first_of (search rules, grind (arith, common_steps))

@@ -1,0 +1,387 @@
+-- What is in the grammar is readable.
+use Rattle.std.proofs.Common.{◌≡◌, ℕ, zero, suc, ◌+◌, ◌<◌, ◌≤◌, ◌^◌, max, Bool, true, false, ◌&&◌, nat_le, List, [], ◌∷◌, ◌++◌, length, map, length-append, Option, Some, None, refl, sym, ap, subst, ◌∙◌, inl, inr, arith}
+use Rattle.std.specs.List.{list_all}
+use Rattle.std.proofs.lemmas.Bool.Decides.{nat_tests}
+use Rattle.std.proofs.lemmas.List.Folds.{list_all-append}
+use Rattle.fl_base.specs.Spelling.{is_name}
+use Rattle.tokens.specs.declared.Token.{Token}
+use Rattle.tokens.specs.Lexeme.{lexeme}
+use Rattle.tokens.specs.Spelled.{AreSpelled}
+use Rattle.fl_ast.specs.Sizes.{bytes_of}
+use Rattle.fl_ast.specs.declared.kind.Kind.{Kind}
+use Rattle.fl_ast.specs.declared.kind.Kind.TheVariants.{Index, Ring}
+use Rattle.fl_ast.specs.declared.kind.Intent.{Intent}
+use Rattle.fl_ast.specs.declared.kind.BinOp.{BinOp}
+use Rattle.fl_ast.specs.declared.decl.Decl.{Decl}
+use Rattle.fl_ast.specs.declared.expr.Expr.{Expr}
+use Rattle.fl_ast.specs.declared.expr.Expr.TheVariants.{Lit, Get, Neg, Bin, rolls-Lit, rolls-Get, rolls-Neg, rolls-Bin}
+use Rattle.fl_ast.specs.declared.expr.Expr.TheFolds.{fold-roll-Expr, fold_out-Place}
+use Rattle.fl_ast.specs.declared.expr.Expr.TheOpen.{Expr-F}
+use Rattle.fl_ast.specs.declared.stmt.Program.{Program}
+use Rattle.fl_ast.specs.declared.stmt.Stmt.{Stmt}
+use Rattle.fl_ast.specs.declared.stmt.Stmt.TheVariants.{Assign, rolls-Assign}
+use Rattle.fl_ast.specs.declared.stmt.Stmt.TheFolds.{fold-roll-Stmt}
+use Rattle.fl_ast.specs.declared.stmt.Stmt.TheOpen.{Stmt-F}
+use Rattle.fl_ast.specs.Tree.{Expression, Designator, literal as literal_tree, get, minus, binary as binary_tree, power, call, no_expressions, expr_level, place_level, expr_tree, place_tree, Condition, Statement, Statements, assignment, stmt_level, arm_level, stmt_tree, stmt_trees}
+use Rattle.fl_ast.specs.Measures.{depth, deepest_in, deepest_in_all, count, count_all, block_depth, block_depth_of_all, loop_numbers, loop_numbers_of_all, nodes, statement_nodes, nodes_of_all}
+use Rattle.fl_ast.specs.Readable.{is_variable, is_readable, is_readable_statement, are_readable_statements, is_size_of, is_readable_decl, counts_up_from, IsReadable}
+use Rattle.parsing.specs.declared.symbol.Symbol.{Symbol}
+use Rattle.parsing.specs.declared.symbol.Symbol.TheVariants as s
+use Rattle.parsing.specs.declared.cursor.Word.{Word}
+use Rattle.parsing.specs.declared.cursor.Number.{Number}
+use Rattle.parsing.specs.Limit.{Limit, allows, less as fewer}
+use Rattle.parsing.specs.Terminal.{by, reads, same, marked, names, name, numbers, number, word}
+use Rattle.parsing.specs.Grammar.{Grammar, one, grouped, left_grouped}
+use Rattle.fl_parser.specs.declared.tree.Measured.{Measured}
+use Rattle.fl_parser.specs.declared.stmt.Counted.{Counted}
+use Rattle.fl_parser.specs.Limits.{the_limits}
+use Rattle.fl_parser.specs.Terminals.{sum_op_by, product_op_by}
+use Rattle.fl_parser.specs.Trees.{kind_of, literal, scalar, place_of, negation, binary, may_stand_left, declared, assigned, no_stmts, program}
+use Rattle.fl_parser.specs.ExprGrammar as g
+use Rattle.fl_parser.specs.UnitGrammar as g2
+use Rattle.parsing.proofs.Outcomes.{differ}
+use Rattle.parsing.proofs.OnSymbols.{begins_mark, begins_name, begins_number, begins_by}
+use Rattle.fl_parser.proofs.Holding.{Holds, holds_bind, holds_gives, holds_many, holds_any, holds_some, holds_name, holds_word, holds_number, holds_both, width, lexemes_spelled, lexemes_narrow}
+
+-- ---- trees
+
+tree-Lit : (v : ℕ) (k : Kind) → expr_tree (Lit v k) ≡ literal_tree v k
+tree-Lit v k = ap expr_tree (sym (rolls-Lit v k)) ∙ fold-roll-Expr Expression Designator expr_level place_level (Expr-F.Lit v k)
+
+tree-Neg : (e : Expr) → expr_tree (Neg e) ≡ minus (expr_tree e)
+tree-Neg e = ap expr_tree (sym (rolls-Neg e)) ∙ fold-roll-Expr Expression Designator expr_level place_level (Expr-F.Neg e)
+
+tree-Bin : (o : BinOp) (l r : Expr) → expr_tree (Bin o l r) ≡ binary_tree o (expr_tree l) (expr_tree r)
+tree-Bin o l r = ap expr_tree (sym (rolls-Bin o l r)) ∙ fold-roll-Expr Expression Designator expr_level place_level (Expr-F.Bin o l r)
+
+place-of : (x : List ℕ) → place_tree (place_of x) ≡ record { name = x; subscripts = no_expressions }
+place-of x = fold_out-Place Expression Designator expr_level place_level (place_of x)
+
+tree-Get : (x : List ℕ) → expr_tree (Get (place_of x)) ≡ get x no_expressions
+tree-Get x = ap expr_tree (sym (rolls-Get (place_of x))) ∙ fold-roll-Expr Expression Designator expr_level place_level (Expr-F.Get (place_of x)) ∙ ap (λ p. get p.name p.subscripts) (place-of x)
+
+tree-Assign : (line : ℕ) (x : List ℕ) (e : Expr) → stmt_tree (Assign line false (place_of x) e) ≡ assignment line false (record { name = x; subscripts = no_expressions }) (expr_tree e)
+tree-Assign line x e =
+    ap stmt_tree (sym (rolls-Assign line false (place_of x) e)) ∙ fold-roll-Stmt Statement (Condition × Statements) stmt_level arm_level (Stmt-F.Assign line false (place_of x) e)
+    ∙ ap (λ p. assignment line false p (expr_tree e)) (place-of x)
+
+pub depth_some : (e : Expression) → 0 < depth e
+depth_some (literal_tree n k) = omega arith
+depth_some (get x s) = omega arith
+depth_some (minus a) = omega arith
+depth_some (binary_tree o a b) = omega arith
+depth_some (power a n) = omega arith
+depth_some (call f s) = omega arith
+
+and_true : (a b : Bool) → a ≡ true → b ≡ true → (a && b) ≡ true
+and_true a b h k = rw (h, k) refl
+
+and_first : (a b : Bool) → (a && b) ≡ true → a ≡ true
+and_first true b e = refl
+and_first false b e = e
+
+and_second : (a b : Bool) → (a && b) ≡ true → b ≡ true
+and_second true b e = e
+and_second false b e = cc
+
+-- ---- expressions
+
+-- a tree of so many levels has at most these beneath its root
+abbrev Fits : Limit → ℕ → Type 0
+Fits (Some most) n = n ≤ most + 1
+Fits None n = Unit {0}
+
+-- Of an expression that begins behind m bytes and ends behind k: the depth is the tree's, and within the limit, and no node is without a byte.
+record Sound (d : Limit) (m : ℕ) (e : Measured) (k : ℕ) : Type 0 where
+  is : depth (expr_tree e.expr) ≡ e.depth
+  fits : Fits d e.depth
+  readable : is_readable (expr_tree e.expr) ≡ true
+  few : nodes (expr_tree e.expr) + m ≤ k
+
+-- the same of its tree
+sound_by : (d : Limit) (m : ℕ) (e : Measured) (k : ℕ) (t : Expression) → expr_tree e.expr ≡ t → depth t ≡ e.depth → Fits d e.depth → is_readable t ≡ true → nodes t + m ≤ k → Sound d m e k
+sound_by d m e k t is_t at fits_ reads_ few_ = record {
+  is = ap depth is_t ∙ at;
+  fits = fits_;
+  readable = ap is_readable is_t ∙ reads_;
+  few = subst (λ (u : Expression). nodes u + m ≤ k) (sym is_t) few_;
+}
+
+one_fits : (d : Limit) → Fits d 1
+one_fits (Some most) = omega arith
+one_fits None = tt
+
+literal_is : (d : Limit) (m : ℕ) (n : Number) (k : ℕ) → nat_le n.value 9223372036854775807 ≡ true → m < k → Sound d m (literal n) k
+literal_is d m n k small more = sound_by d m (literal n) k (literal_tree n.value (kind_of n.suffix)) (tree-Lit n.value (kind_of n.suffix)) refl (one_fits d) small (omega (arith, more))
+
+scalar_is : (d : Limit) (m : ℕ) (x : Word) (k : ℕ) → is_variable x.name ≡ true → m < k → Sound d m (scalar x) k
+scalar_is d m x k named more = sound_by d m (scalar x) k (get x.name no_expressions) (tree-Get x.name) refl (one_fits d) (and_true _ _ named refl) (omega (arith, more))
+
+some_depth : (d : Limit) (m : ℕ) (e : Measured) (k : ℕ) → Sound d m e k → 0 < e.depth
+some_depth d m e k S = subst (λ (n : ℕ). 0 < n) S.is (depth_some (expr_tree e.expr))
+
+negation_is : (d : Limit) (m a : ℕ) (e : Measured) (k : ℕ) → allows d 1 ≡ true → m < a → Sound (fewer d) a e k → Sound d m (negation e) k
+negation_is d m a e k h more S =
+    let few_ = S.few in
+    sound_by d m (negation e) k (minus (expr_tree e.expr)) (tree-Neg e.expr) (ap (λ n. n + 1) S.is) (fitting d h S.fits) S.readable (omega (arith, more, few_))
+  where
+    fitting : (d : Limit) → allows d 1 ≡ true → Fits (fewer d) e.depth → Fits d (e.depth + 1)
+    fitting (Some most) h f = grind (arith, nat_tests)
+    fitting None h f = tt
+
+binary_is : (d : Limit) (m a b : ℕ) (o : BinOp) (l r : Measured) (k : ℕ) → Sound d m l a → may_stand_left d l ≡ true → a < b → Sound (fewer d) b r k → Sound d m (binary o l r) k
+binary_is d m a b o l r k L h more R =
+    let few_l = L.few in
+    let few_r = R.few in
+    sound_by d m (binary o l r) k (binary_tree o (expr_tree l.expr) (expr_tree r.expr)) (tree-Bin o l.expr r.expr)
+    (ap (λ n. max n (depth (expr_tree r.expr)) + 1) L.is ∙ ap (λ n. max l.depth n + 1) R.is)
+    (fitting d h R.fits (some_depth d m l a L)) (and_true _ _ L.readable R.readable) (omega (arith, few_l, few_r, more))
+  where
+    fitting : (d : Limit) → may_stand_left d l ≡ true → Fits (fewer d) r.depth → 0 < l.depth → Fits d (max l.depth r.depth + 1)
+    fitting (Some most) h f some_ = grind (arith, nat_tests)
+    fitting None h f some_ = tt
+
+-- operations of one level
+grouped_sound : (op : Symbol → Option BinOp) → reads op s.LineEnd ≡ false → (operand : Limit → Grammar Measured) → ((d : Limit) (m : ℕ) → Holds m (operand d) (Sound d m)) →
+    (d : Limit) (m : ℕ) (l : Measured) (a : ℕ) → Sound d m l a → Holds a (left_grouped (by op) binary may_stand_left operand d l) (Sound d m)
+grouped_sound op unlike operand sound d m l a S = holds_many (may_stand_left d) (grouped (by op) binary operand d) (Sound d m) more l a S
+  where
+    more : (l : Measured) (a : ℕ) → Sound d m l a → may_stand_left d l ≡ true → Holds a (grouped (by op) binary operand d l) (Sound d m)
+    more l a L h = holds_bind a (one (by op)) _ (λ o b. a < b) (Sound d m) (holds_some a (by op) (reads op) unlike (begins_by op))
+        (λ o b after. holds_bind b (operand (fewer d)) _ (Sound (fewer d) b) (Sound d m) (sound (fewer d) b)
+        (λ r k R. holds_gives k (binary o l r) (Sound d m) (binary_is d m a b o l r k L h after R)))
+
+module _ (open_ : Bool) (ig : Limit → Grammar Measured) (inner : open_ ≡ true → (d : Limit) (m : ℕ) → Holds m (ig d) (Sound d m)) where
+  wider_sound : (d : Limit) (m a : ℕ) (e : Measured) (k : ℕ) → m ≤ a → Sound d a e k → Sound d m e k
+  wider_sound d m a e k h S = let few_ = S.few in record { is = S.is; fits = S.fits; readable = S.readable; few = omega (arith, h, few_) }
+
+  longer_sound : (d : Limit) (m : ℕ) (e : Measured) (a k : ℕ) → a ≤ k → Sound d m e a → Sound d m e k
+  longer_sound d m e a k h S = let few_ = S.few in record { is = S.is; fits = S.fits; readable = S.readable; few = omega (arith, h, few_) }
+
+  bracketed_sound : (d : Limit) (m : ℕ) → open_ ≡ true → Holds m (g.bracketed open_ ig d) (Sound d m)
+  unfolding g.bracketed
+  bracketed_sound d m so = holds_bind m (one (marked s.Open)) _ (λ _ a. m ≤ a) (Sound d m) (holds_any m _)
+      (λ _ a before. holds_bind a (ig d) _ (Sound d a) (Sound d m) (inner so d a)
+      (λ e b S. holds_bind b (one (marked s.Close)) _ (λ _ k. b ≤ k) (Sound d m) (holds_any b _)
+      (λ _ k after. holds_gives k e (Sound d m) (longer_sound d m e b k after (wider_sound d m a e b before S)))))
+
+  factor_sound : (d : Limit) (m : ℕ) → Holds m (g.factor open_ ig d) (Sound d m)
+  unfolding g.factor g.primary g.scalar g.literal
+  factor_sound d m e us sp (inl (so, n)) = bracketed_sound d m so e us sp n
+  factor_sound d m e us sp (inr (inl n)) = holds_bind m (one name) _ (λ x k. (is_variable x.name ≡ true) × (m < k)) (Sound d m)
+      (holds_both m (one name) (λ x k. is_variable x.name ≡ true) (λ x k. m < k) (holds_name m) (holds_some m name names refl begins_name))
+      (λ x k h. holds_gives k (scalar x) (Sound d m) (scalar_is d m x k h.0 h.1)) e us sp n
+  factor_sound d m e us sp (inr (inr n)) = holds_bind m (one number) _ (λ x k. (nat_le x.value 9223372036854775807 ≡ true) × (m < k)) (Sound d m)
+      (holds_both m (one number) (λ x k. nat_le x.value 9223372036854775807 ≡ true) (λ x k. m < k) (holds_number m) (holds_some m number numbers refl begins_number))
+      (λ x k h. holds_gives k (literal x) (Sound d m) (literal_is d m x k h.0 h.1)) e us sp n
+
+  term_sound : (d : Limit) (m : ℕ) → Holds m (g.term open_ ig d) (Sound d m)
+  unfolding g.term g.factors_from
+  term_sound d m = holds_bind m (g.factor open_ ig d) _ (Sound d m) (Sound d m) (factor_sound d m) (grouped_sound product_op_by refl (g.factor open_ ig) factor_sound d m)
+
+  terms_sound : (d : Limit) (m : ℕ) (e : Measured) (a : ℕ) → Sound d m e a → Holds a (g.terms_from open_ ig d e) (Sound d m)
+  unfolding g.terms_from
+  terms_sound = grouped_sound sum_op_by refl (g.term open_ ig) term_sound
+
+  unsigned_sound : (d : Limit) (m : ℕ) → Holds m (g.unsigned open_ ig d) (Sound d m)
+  unfolding g.unsigned
+  unsigned_sound d m = holds_bind m (g.term open_ ig d) _ (Sound d m) (Sound d m) (term_sound d m) (terms_sound d m)
+
+  sum_sound : (d : Limit) (m : ℕ) → Holds m (g.sum open_ ig d) (Sound d m)
+  unfolding g.sum g.negated g.plain
+  sum_sound d m e us sp (inl (h, n)) = holds_bind m (one (marked s.Minus)) _ (λ _ a. m < a) (Sound d m) (holds_some m (marked s.Minus) (same s.Minus) refl (begins_mark s.Minus))
+      (λ _ a more. holds_bind a (g.term open_ ig (fewer d)) _ (Sound (fewer d) a) (Sound d m) (term_sound (fewer d) a)
+      (λ x k S. terms_sound d m (negation x) k (negation_is d m a x k h more S))) e us sp n
+  sum_sound d m e us sp (inr (inl n)) = holds_bind m (one (marked s.Plus)) _ (λ _ a. m ≤ a) (Sound d m) (holds_any m _)
+      (λ _ a before x vs r y. wider_sound d m a x (a + width vs) before (unsigned_sound d a x vs r y)) e us sp n
+  sum_sound d m e us sp (inr (inr n)) = unsigned_sound d m e us sp n
+
+expr_sound : (b : ℕ) (d : Limit) (m : ℕ) → Holds m (g.expr b d) (Sound d m)
+unfolding g.expr
+expr_sound zero = sum_sound false _ (λ no. differ true refl (sym no))
+expr_sound (suc b) = sum_sound true _ (λ _. expr_sound b)
+
+-- ---- statements
+
+count-append : (ss : List Stmt) (s : Stmt) → count_all (stmt_trees (ss ++ s ∷ [])) ≡ count_all (stmt_trees ss) + count (stmt_tree s)
+count-append [] s = omega arith
+count-append (t ∷ ss) s = ap (λ n. count (stmt_tree t) + n) (count-append ss s) ∙ omega arith
+
+deepest-append : (ss : List Stmt) (s : Stmt) → deepest_in_all (stmt_trees (ss ++ s ∷ [])) ≡ max (deepest_in_all (stmt_trees ss)) (deepest_in (stmt_tree s))
+deepest-append [] s = omega arith
+deepest-append (t ∷ ss) s = ap (λ n. max (deepest_in (stmt_tree t)) n) (deepest-append ss s) ∙ omega arith
+
+blocks-append : (ss : List Stmt) (s : Stmt) → block_depth_of_all (stmt_trees (ss ++ s ∷ [])) ≡ max (block_depth_of_all (stmt_trees ss)) (block_depth (stmt_tree s))
+blocks-append [] s = omega arith
+blocks-append (t ∷ ss) s = ap (λ n. max (block_depth (stmt_tree t)) n) (blocks-append ss s) ∙ omega arith
+
+nodes-append : (ss : List Stmt) (s : Stmt) → nodes_of_all (stmt_trees (ss ++ s ∷ [])) ≡ nodes_of_all (stmt_trees ss) + statement_nodes (stmt_tree s)
+nodes-append [] s = omega arith
+nodes-append (t ∷ ss) s = ap (λ n. statement_nodes (stmt_tree t) + n) (nodes-append ss s) ∙ omega arith
+
+loops-append : (ss : List Stmt) (s : Stmt) → loop_numbers_of_all (stmt_trees ss) ≡ [] → loop_numbers (stmt_tree s) ≡ [] → loop_numbers_of_all (stmt_trees (ss ++ s ∷ [])) ≡ []
+loops-append [] s h k = ap (λ v. v ++ []) k
+loops-append (t ∷ ss) s h k =
+    ap (λ v. loop_numbers (stmt_tree t) ++ v) (loops-append ss s (second (loop_numbers (stmt_tree t)) (loop_numbers_of_all (stmt_trees ss)) h) k ∙ sym (second (loop_numbers (stmt_tree t)) (loop_numbers_of_all (stmt_trees ss)) h)) ∙ h
+  where
+    second : (a b : List ℕ) → a ++ b ≡ [] → b ≡ []
+    second [] b e = e
+    second (x ∷ a) b e = cc
+
+readable-append : (ss : List Stmt) (s : Stmt) → are_readable_statements (stmt_trees ss) ≡ true → is_readable_statement (stmt_tree s) ≡ true → are_readable_statements (stmt_trees (ss ++ s ∷ [])) ≡ true
+readable-append [] s h k = and_true _ _ k refl
+readable-append (t ∷ ss) s h k = and_true _ _ (and_first _ _ h) (readable-append ss s (and_second _ _ h) k)
+
+record Counts_well (c : Counted) (k : ℕ) : Type 0 where
+  is : count_all (stmt_trees c.stmts) ≡ c.count
+  few : c.count ≤ 4096
+  depths : deepest_in_all (stmt_trees c.stmts) ≤ 64
+  blocks : block_depth_of_all (stmt_trees c.stmts) ≤ 0
+  loops : loop_numbers_of_all (stmt_trees c.stmts) ≡ []
+  readable : are_readable_statements (stmt_trees c.stmts) ≡ true
+  few_nodes : nodes_of_all (stmt_trees c.stmts) ≤ k
+
+assigned_is : (c : Counted) (x : Word) (e : Measured) (m a b k : ℕ) → Counts_well c m → nat_le (c.count + 1) 4096 ≡ true → is_variable x.name ≡ true → m < a → a < b → Sound (Some 63) b e k →
+    Counts_well (assigned c x e) k
+assigned_is c x e m a b k C h named more and_more S =
+    let s = Assign x.line false (place_of x.name) e.expr in
+    let t = tree-Assign x.line x.name e.expr in
+    let one_ : count (stmt_tree s) ≡ 1 = ap count t in
+    let deep : deepest_in (stmt_tree s) ≡ max 0 (depth (expr_tree e.expr)) = ap deepest_in t in
+    let flat : block_depth (stmt_tree s) ≡ 0 = ap block_depth t in
+    let size : statement_nodes (stmt_tree s) ≡ 0 + nodes (expr_tree e.expr) + 2 = ap statement_nodes t in
+    let is_ = S.is in
+    let fits = S.fits in
+    let few_ = S.few in
+    record {
+      is = count-append c.stmts s ∙ ap (λ n. count_all (stmt_trees c.stmts) + n) one_ ∙ ap (λ n. n + 1) C.is;
+      few = grind (arith, nat_tests);
+      depths = subst (λ (n : ℕ). n ≤ 64) (sym (deepest-append c.stmts s)) (omega (arith, C.depths));
+      blocks = subst (λ (n : ℕ). n ≤ 0) (sym (blocks-append c.stmts s)) (omega (arith, C.blocks, flat));
+      loops = loops-append c.stmts s C.loops (ap loop_numbers t);
+      readable = readable-append c.stmts s C.readable (ap is_readable_statement t ∙ and_true _ _ named S.readable);
+      few_nodes = subst (λ (n : ℕ). n ≤ k) (sym (nodes-append c.stmts s)) (omega (arith, C.few_nodes, size, few_, more, and_more));
+    }
+
+longer : (c : Counted) (a k : ℕ) → a ≤ k → Counts_well c a → Counts_well c k
+longer c a k h C = let few_ = C.few_nodes in record {
+  is = C.is;
+  few = C.few;
+  depths = C.depths;
+  blocks = C.blocks;
+  loops = C.loops;
+  readable = C.readable;
+  few_nodes = omega (arith, h, few_);
+}
+
+stmts_well : (m : ℕ) → Holds m (g2.stmts the_limits) Counts_well
+unfolding g2.stmts g2.assign
+stmts_well m = holds_many (λ c. allows (Some 4096) (c.count + 1)) (g2.assign the_limits) Counts_well
+    (λ c k C h. holds_bind k (one name) _ (λ x a. (is_variable x.name ≡ true) × (k < a)) Counts_well
+    (holds_both k (one name) (λ x a. is_variable x.name ≡ true) (λ x a. k < a) (holds_name k) (holds_some k name names refl begins_name))
+    (λ x a n. holds_bind a (one (marked s.Equals)) _ (λ _ b. a < b) Counts_well (holds_some a (marked s.Equals) (same s.Equals) refl (begins_mark s.Equals))
+    (λ _ b more. holds_bind b (g.expr 256 (Some 63)) _ (Sound (Some 63) b) Counts_well (expr_sound 256 (Some 63) b)
+    (λ e d S. holds_bind d (one (marked s.LineEnd)) _ (λ _ z. d ≤ z) Counts_well (holds_any d _)
+    (λ _ z after. holds_gives z (assigned c x e) Counts_well (longer (assigned c x e) d z after (assigned_is c x e k a b d C h n.0 n.1 more S)))))))
+    no_stmts m (record { is = refl; few = omega arith; depths = omega arith; blocks = omega arith; loops = refl; readable = refl; few_nodes = omega arith })
+
+-- ---- declarations
+
+record Declares_well (ds : List Decl) : Type 0 where
+  few : length ds ≤ 512
+  readable : list_all is_readable_decl ds ≡ true
+
+size_of : (k : Kind) → is_size_of k (bytes_of k) ≡ true
+size_of Index = refl
+size_of Ring = refl
+
+declared_well : (ds : List Decl) (line : ℕ) (k : Kind) (i : Intent) (x : Word) → nat_le (length ds + 1) 512 ≡ true → is_variable x.name ≡ true → Declares_well ds → Declares_well (declared ds line k i x)
+declared_well ds line k i x h named D =
+    let d : Decl = record { line = line; name = x.name; kind = k; bytes = bytes_of k; intent = i; dims = [] } in
+    let size = length-append ds (d ∷ []) in
+    record {
+      few = grind (arith, nat_tests);
+      readable = list_all-append is_readable_decl ds (d ∷ []) ∙ and_true _ _ D.readable (and_true _ _ (and_true _ _ named (and_true _ _ (size_of k) refl)) refl);
+    }
+
+decls_well : (m : ℕ) → Holds m (g2.decls the_limits) (λ ds k. Declares_well ds)
+unfolding g2.decls g2.decl g2.items g2.another_item
+decls_well m = holds_many (g2.may_declare the_limits) (g2.decl the_limits) (λ ds k. Declares_well ds)
+    (λ ds a D h. holds_bind a (one (marked s.Integer)) _ (λ _ b. a ≤ b) (λ es k. Declares_well es) (holds_any a _)
+    (λ line b _. holds_bind b g2.kind _ (λ _ c. b ≤ c) (λ es k. Declares_well es) (holds_any b _)
+    (λ kind c _. holds_bind c g2.intent _ (λ _ e. c ≤ e) (λ es k. Declares_well es) (holds_any c _)
+    (λ i e _. holds_bind e (one name) _ (λ x k. is_variable x.name ≡ true) (λ es k. Declares_well es) (holds_name e)
+    (λ x f named. holds_bind f (g2.items the_limits line kind i (declared ds line kind i x)) _ (λ es k. Declares_well es) (λ es k. Declares_well es)
+    (holds_many (g2.may_declare the_limits) (g2.another_item the_limits line kind i) (λ es k. Declares_well es)
+    (λ es k E r. holds_bind k (one (marked s.Comma)) _ (λ _ n. k ≤ n) (λ es n. Declares_well es) (holds_any k _)
+    (λ _ n _. holds_bind n (one name) _ (λ y k. is_variable y.name ≡ true) (λ es n. Declares_well es) (holds_name n)
+    (λ y n called. holds_gives n (declared es line kind i y) (λ es n. Declares_well es) (declared_well es line kind i y r called E))))
+    (declared ds line kind i x) f (declared_well ds line kind i x h named D))
+    (λ found n F. holds_bind n (one (marked s.LineEnd)) _ (λ _ k. n ≤ k) (λ es k. Declares_well es) (holds_any n _)
+    (λ _ k _. holds_gives k found (λ es k. Declares_well es) F)))))))
+    [] m (record { few = omega arith; readable = refl })
+
+-- ---- the unit
+
+abbrev AreNames : List (List ℕ) → ℕ → Type 0
+AreNames xs k = list_all is_variable xs ≡ true
+
+one_more_name : (xs : List (List ℕ)) (x : List ℕ) → list_all is_variable xs ≡ true → is_variable x ≡ true → list_all is_variable (xs ++ x ∷ []) ≡ true
+one_more_name xs x h n = list_all-append is_variable xs (x ∷ []) ∙ and_true _ _ h (and_true _ _ n refl)
+
+args_named : (m : ℕ) → Holds m g2.args AreNames
+unfolding g2.args g2.bracketed_args g2.listed_args g2.some_args g2.more_args g2.another_arg
+args_named m found us sp (inr n) = holds_gives m [] AreNames refl found us sp n
+args_named m found us sp (inl n) = holds_bind m (one (marked s.Open)) _ (λ _ a. m ≤ a) AreNames (holds_any m _)
+    (λ _ a _. holds_bind a g2.listed_args _ AreNames AreNames (listed a)
+    (λ xs b h. holds_bind b (one (marked s.Close)) _ (λ _ k. b ≤ k) AreNames (holds_any b _) (λ _ k _. holds_gives k xs AreNames h))) found us sp n
+  where
+    listed : (m : ℕ) → Holds m g2.listed_args AreNames
+    listed m found us sp (inr n) = holds_gives m [] AreNames refl found us sp n
+    listed m found us sp (inl n) = holds_bind m (one name) _ (λ x k. is_variable x.name ≡ true) AreNames (holds_name m)
+        (λ x a named. holds_many (λ xs. true) g2.another_arg AreNames
+        (λ xs k h _. holds_bind k (one (marked s.Comma)) _ (λ _ b. k ≤ b) AreNames (holds_any k _)
+        (λ _ b _. holds_bind b (one name) _ (λ y k. is_variable y.name ≡ true) AreNames (holds_name b)
+        (λ y c called. holds_gives c (xs ++ y.name ∷ []) AreNames (one_more_name xs y.name h called))))
+        (x.name ∷ []) a (and_true _ _ named refl)) found us sp n
+
+-- readable, with a byte for each node
+record Spelled_out (p : Program) (k : ℕ) : Type 0 where
+  name : is_name p.name ≡ true
+  args : list_all is_variable p.args ≡ true
+  decls : Declares_well p.decls
+  body : (c : Counted) × (c.stmts ≡ p.body) × Counts_well c k
+
+unit_well : Holds 0 (g2.unit the_limits) Spelled_out
+unfolding g2.unit
+unit_well = holds_bind 0 (one (marked s.Subroutine)) _ (λ _ a. 0 ≤ a) Spelled_out (holds_any 0 _)
+    (λ line a _. holds_bind a (one word) _ (λ x k. is_name x.name ≡ true) Spelled_out (holds_word a)
+    (λ x b named. holds_bind b g2.args _ AreNames Spelled_out (args_named b)
+    (λ found c are_named. holds_bind c (one (marked s.LineEnd)) _ (λ _ k. c ≤ k) Spelled_out (holds_any c _)
+    (λ _ d _. holds_bind d g2.implicit _ (λ _ k. d ≤ k) Spelled_out (holds_any d _)
+    (λ _ e _. holds_bind e (g2.decls the_limits) _ (λ ds k. Declares_well ds) Spelled_out (decls_well e)
+    (λ ds f D. holds_bind f (g2.stmts the_limits) _ Counts_well Spelled_out (stmts_well f)
+    (λ body n C. holds_bind n (g2.end_unit x.name) _ (λ _ k. n ≤ k) Spelled_out (holds_any n _)
+    (λ _ k after. holds_gives k (program line x found ds body) Spelled_out
+    (record { name = named; args = are_named; decls = D; body = (body, refl, longer body n k after C) })))))))))
+
+readable_of : (p : Program) (c : Counted) (k : ℕ) → Spelled_out p k → c.stmts ≡ p.body → Counts_well c k → k < 2 ^ 32 → IsReadable p
+readable_of p c k P e C few = record {
+  name = P.name;
+  args = P.args;
+  decls = P.decls.readable;
+  body = ap (λ v. are_readable_statements (stmt_trees v)) (sym e) ∙ C.readable;
+  few_names = P.decls.few;
+  few_statements = subst (λ (v : List Stmt). count_all (stmt_trees v) ≤ 4096) e (subst (λ (n : ℕ). n ≤ 4096) (sym C.is) C.few);
+  shallow = subst (λ (v : List Stmt). deepest_in_all (stmt_trees v) ≤ 64) e C.depths;
+  shallow_blocks = subst (λ (v : List Stmt). block_depth_of_all (stmt_trees v) ≤ 64) e (let flat = C.blocks in omega (arith, flat));
+  numbered = ap (λ v. counts_up_from 1 (loop_numbers_of_all (stmt_trees v))) (sym e) ∙ ap (counts_up_from 1) C.loops;
+  few_nodes = subst (λ (v : List Stmt). nodes_of_all (stmt_trees v) < 2 ^ 32) e (let some_ = C.few_nodes in omega (arith, some_, few));
+}
+
+-- A program that a text spells is readable.
+pub readable_by_tokens : (text : List ℕ) (tokens : List Token) (p : Program) → length text + 1 < 2 ^ 32 → AreSpelled text 0 tokens → g2.unit the_limits p (map (lexeme text) tokens) → IsReadable p
+readable_by_tokens text tokens p few spelled n =
+    let P = unit_well p (map (lexeme text) tokens) (lexemes_spelled text 0 tokens spelled) n in
+    let narrow = lexemes_narrow text 0 tokens (omega arith) spelled in
+    readable_of p P.body.0 (0 + width (map (lexeme text) tokens)) P P.body.1 P.body.2 (omega (arith, narrow, few))
