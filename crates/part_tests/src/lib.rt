@@ -1,0 +1,12 @@
+//! Tests of the parts' public functions: each once with ample memory, with values that come from outside. They stand in
+//! a crate of their own, so that each part is proved once.
+#![tactic(auto)]
+
+#[cfg(test)]
+mod data;
+#[cfg(test)]
+mod programs;
+#[cfg(test)]
+mod runs;
+#[cfg(test)]
+mod trees;
