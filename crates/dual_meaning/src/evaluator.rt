@@ -152,16 +152,16 @@ fn call(
     match args {
         [only] => {
             let value = evaluate(alloc, table, cells, only)?;
-            Ok(intrinsic(fun, &[value])?)
+            Ok(intrinsic(table.width(), fun, &[value])?)
         }
         [left, right] => {
             let first = evaluate(alloc, table, cells, left)?;
             let second = evaluate(alloc, table, cells, right)?;
-            Ok(intrinsic(fun, &[first, second])?)
+            Ok(intrinsic(table.width(), fun, &[first, second])?)
         }
         others => {
             let values = evaluate_all(alloc, table, cells, others)?;
-            Ok(intrinsic(fun, values.as_slice())?)
+            Ok(intrinsic(table.width(), fun, values.as_slice())?)
         }
     }
 }
@@ -307,7 +307,7 @@ pub fn holds(
         ResolvedCond::Rel { op, left, right } => {
             let first = evaluate(alloc, table, cells, left)?;
             let second = evaluate(alloc, table, cells, right)?;
-            Ok(relates(*op, first, second))
+            Ok(relates(table.width(), *op, first, second))
         }
         ResolvedCond::Not(inner) => {
             let inner = holds(alloc, table, cells, inner.get())?;

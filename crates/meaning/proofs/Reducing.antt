@@ -4,15 +4,15 @@ use Rattle.std.specs.Int.{w8, w16, w64, cast_signed, cast_unsigned}
 use Rattle.std.proofs.Common.{ap, sym, ◌∙◌, arith}
 use Rattle.ring_core.specs.declared.ring.Width.{Width}
 use Rattle.ring_core.specs.declared.ring.Width.TheVariants.{W8, W16}
-use Rattle.ring_core.specs.Ring.{ring_add, ring_sub, ring_mul, ring_neg}
+use Rattle.ring_core.specs.Ring.{ring_add, ring_sub, ring_mul, ring_neg, modulus, signed_at}
 use Rattle.ring_core.proofs.Modular.{modular}
 use Rattle.fl_ast.specs.declared.kind.BinOp.{BinOp}
 use Rattle.fl_ast.specs.declared.kind.BinOp.TheVariants.{Add, Sub, Mul, Div}
 use Rattle.meaning.specs.declared.value.Dual.{Dual}
 use Rattle.meaning.specs.declared.value.Value.{Value}
 use Rattle.meaning.specs.declared.value.Value.TheVariants.{Index, Ring}
-use Rattle.meaning.specs.Values.{Found, dual_add, dual_sub, dual_neg, dual_mul, dual_pow, as_dual, signed_at, rank, ranks, ring_result, binary_result, negation_result, power_result, larger_result, smaller_result, absolute_result, compares}
-use Rattle.meaning.specs.Widths.{modulus, reduced_dual, reduced_value, reduced_found, OperationsRespect, WidthsAreRespected}
+use Rattle.meaning.specs.Values.{Found, dual_add, dual_sub, dual_neg, dual_mul, dual_pow, as_dual, rank, ranks, ring_result, binary_result, negation_result, power_result, larger_result, smaller_result, absolute_result, compares}
+use Rattle.meaning.specs.Widths.{reduced_dual, reduced_value, reduced_found, OperationsRespect, WidthsAreRespected}
 
 -- what is asked of a width: its modulus divides 2^64, and numbers are compared by what is left of them
 pub record Narrow (w : Width) : Type 0 where

@@ -14,13 +14,13 @@ use Rattle.fl_ast.specs.Tree.{Expression, literal, get, minus, binary, power, ca
 use Rattle.fl_types.specs.declared.access.AccessKind.{AccessKind}
 use Rattle.fl_types.specs.declared.access.AccessKind.TheVariants.{Read}
 use Rattle.ring_core.specs.declared.ring.Width.{Width}
-use Rattle.ring_core.specs.Ring.{ring_add, ring_sub, ring_mul, ring_neg}
+use Rattle.ring_core.specs.Ring.{ring_add, ring_sub, ring_mul, ring_neg, signed_at}
 use Rattle.ring_core.specs.declared.index.IndexTrap.{IndexTrap}
 use Rattle.meaning.specs.declared.value.Dual.{Dual}
 use Rattle.meaning.specs.declared.value.Value.{Value}
 use Rattle.meaning.specs.declared.value.Value.TheVariants.{Index, Ring}
 use Rattle.meaning.specs.declared.value.Cause.{Cause}
-use Rattle.meaning.specs.Values.{Found, of_index, dual_add, dual_sub, dual_neg, dual_mul, dual_pow, as_dual, signed_at, rank, ranks, whole_number, whole_numbers, literal_value, index_result, ring_result, binary_result, negation_result, power_result, larger_result, smaller_result, absolute_result, remainder, on_one, on_two, call_result, compares, relates}
+use Rattle.meaning.specs.Values.{Found, of_index, dual_add, dual_sub, dual_neg, dual_mul, dual_pow, as_dual, rank, ranks, whole_number, whole_numbers, literal_value, index_result, ring_result, binary_result, negation_result, power_result, larger_result, smaller_result, absolute_result, remainder, on_one, on_two, call_result, compares, relates}
 use Rattle.meaning.specs.Logs.{Log, touched, Traced, pure, lift, after, continuation, ◌>>=◌}
 use Rattle.meaning.specs.Sites.{Cells, Site, place_of}
 use Rattle.meaning.specs.Expressions.{after_touch, content, read_cell, read_place, read, value_of, values_of, holds}

@@ -1,7 +1,7 @@
 -- Values of the two kinds, and the operations on them.
-use Rattle.std.specs.Prelude.{ℕ, zero, suc, ◌^◌, ◌%◌, Bool, not, if◌then◌else◌, List, [], ◌∷◌, Result, Ok, Err, ℤ, pos, ◌+ℤ◌, ◌-ℤ◌, ◌*ℤ◌, neg_ℤ, int_lt, int_le}
+use Rattle.std.specs.Prelude.{ℕ, zero, suc, Bool, not, if◌then◌else◌, List, [], ◌∷◌, Result, Ok, Err, ℤ, pos, ◌+ℤ◌, ◌-ℤ◌, ◌*ℤ◌, neg_ℤ, int_lt, int_le}
 use Rattle.std.specs.Ordering.{int_eq}
-use Rattle.std.specs.Int.{w8, w16, w64, cast_signed, cast_unsigned, int_pow}
+use Rattle.std.specs.Int.{w64, cast_unsigned, int_pow}
 use Rattle.fl_ast.specs.declared.kind.Kind.{Kind}
 use Rattle.fl_ast.specs.declared.kind.Kind.TheVariants as kind
 use Rattle.fl_ast.specs.declared.kind.BinOp.{BinOp}
@@ -11,10 +11,9 @@ use Rattle.fl_ast.specs.declared.kind.RelOp.TheVariants.{Eq, Ne, Lt, Le, Gt, Ge}
 use Rattle.fl_ast.specs.declared.kind.Fun.{Fun}
 use Rattle.fl_ast.specs.declared.kind.Fun.TheVariants.{Max, Min, Abs, Mod}
 use Rattle.ring_core.specs.declared.ring.Width.{Width}
-use Rattle.ring_core.specs.declared.ring.Width.TheVariants.{W8, W16, W64}
 use Rattle.ring_core.specs.declared.index.IndexTrap.{IndexTrap}
 use Rattle.ring_core.specs.declared.index.IndexTrap.TheVariants as index_trap
-use Rattle.ring_core.specs.Ring.{ring_add, ring_sub, ring_mul, ring_neg}
+use Rattle.ring_core.specs.Ring.{ring_add, ring_sub, ring_mul, ring_neg, signed_at}
 use Rattle.ring_core.specs.Index.{exact_index, index_div, index_rem}
 use Rattle.meaning.specs.declared.value.Dual.{Dual}
 use Rattle.meaning.specs.declared.value.Value.{Value}
@@ -66,12 +65,6 @@ as_dual (Ring d) = d
 abbrev pub as_kind : Kind → Value → Value
 as_kind kind.Ring v = Ring (as_dual v)
 as_kind kind.Index v = v
-
--- a word, which is below 2^64, modulo 2^B as a number in -2^(B-1) .. 2^(B-1)-1
-abbrev pub signed_at : Width → ℕ → ℤ
-signed_at W8 n = cast_signed w8 (n % 2 ^ 8)
-signed_at W16 n = cast_signed w16 (n % 2 ^ 16)
-signed_at W64 n = cast_signed w64 n
 
 -- the number by which a value is compared, ring values at a width
 abbrev pub rank : Width → Value → ℤ

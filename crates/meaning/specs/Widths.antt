@@ -1,6 +1,7 @@
 -- What is left of a word at a width.
 use Rattle.std.specs.Prelude.{◌≡◌, ℕ, ◌%◌, [], ◌∷◌, Option, Some, None, Result, Ok, Err}
 use Rattle.ring_core.specs.declared.ring.Width.{Width}
+use Rattle.ring_core.specs.Ring.{modulus}
 use Rattle.ring_core.specs.declared.ring.Width.TheVariants.{W8, W16, W64}
 use Rattle.fl_ast.specs.declared.kind.BinOp.{BinOp}
 use Rattle.fl_ast.specs.declared.kind.RelOp.{RelOp}
@@ -13,11 +14,6 @@ use Rattle.meaning.specs.Logs.{Event, begins, touches, pushes, ends, traps, Log,
 use Rattle.meaning.specs.Sites.{Cells, Site}
 use Rattle.meaning.specs.Statements.{run_all}
 use Rattle.meaning.specs.Values.{Found, binary_result, negation_result, power_result, larger_result, smaller_result, absolute_result, relates}
-
-abbrev pub modulus : Width → ℕ
-modulus W8 = 256
-modulus W16 = 65536
-modulus W64 = 18446744073709551616
 
 abbrev pub reduced_dual : Width → Dual → Dual
 reduced_dual w d = record { value = d.value % modulus w; tangent = d.tangent % modulus w }

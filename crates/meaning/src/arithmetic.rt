@@ -1,11 +1,10 @@
 ghost use Rattle.std.specs.Prelude.{◌≡◌, [], ◌∷◌};
 ghost use Rattle.meaning.specs.Values.{dual_add, dual_sub, dual_neg, dual_mul, dual_pow, cause_of, as_dual, as_kind, rank, whole_number, literal_value, index_result, ring_result, binary_result, negation_result, power_result, larger_result, smaller_result, absolute_result, remainder, call_result, compares, ranks as ranks_lem, relates as relates_lem};
-ghost use Rattle.ring_core.specs.declared.ring.Width.TheVariants.{W64};
 ghost use Rattle.meaning.specs.declared.value.Value.{Value};
 
 use crate::value::{Cause, Dual, Value};
 use fl_ast::{BinOp, Fun, Kind, RelOp};
-use ring_core::{Index, IndexTrap, Ring};
+use ring_core::{Index, IndexTrap, Ring, Width};
 
 impl From<IndexTrap> for Cause {
     ghost from_gives = { λ t c. c ≡ cause_of t };
@@ -106,13 +105,13 @@ impl Value {
         }
     }
 
-    /// The number by which values are compared.
-    pub fn rank(&self) -> i64
-        ensures { result ≡ rank W64 self.now }
+    /// The number by which values are compared, of a ring value at the width of data.
+    pub fn rank(&self, width: Width) -> i64
+        ensures { result ≡ rank width self.now }
     {
         match self {
             Value::Index(index) => i64::from(index.value()),
-            Value::Ring(dual) => dual.value.signed(),
+            Value::Ring(dual) => dual.value.signed_at(width),
         }
     }
 
@@ -144,30 +143,30 @@ impl Value {
         }
     }
 
-    pub fn max(self, other: Value) -> Result<Value, Cause>
-        ensures { result ≡ larger_result W64 self other }
+    pub fn max(self, other: Value, width: Width) -> Result<Value, Cause>
+        ensures { result ≡ larger_result width self other }
     {
-        if self.rank() >= other.rank() {
+        if self.rank(width) >= other.rank(width) {
             Ok(self)
         } else {
             Ok(other)
         }
     }
 
-    pub fn min(self, other: Value) -> Result<Value, Cause>
-        ensures { result ≡ smaller_result W64 self other }
+    pub fn min(self, other: Value, width: Width) -> Result<Value, Cause>
+        ensures { result ≡ smaller_result width self other }
     {
-        if self.rank() <= other.rank() {
+        if self.rank(width) <= other.rank(width) {
             Ok(self)
         } else {
             Ok(other)
         }
     }
 
-    pub fn abs(self) -> Result<Value, Cause>
-        ensures { result ≡ absolute_result W64 self }
+    pub fn abs(self, width: Width) -> Result<Value, Cause>
+        ensures { result ≡ absolute_result width self }
     {
-        if self.rank() < 0 {
+        if self.rank(width) < 0 {
             self.neg()
         } else {
             Ok(self)
@@ -237,41 +236,47 @@ pub fn binary(op: BinOp, left: Value, right: Value) -> Result<Value, Cause>
     }
 }
 
-fn on_two(fun: Fun, left: Value, right: Value) -> Result<Value, Cause>
-    ensures { result ≡ call_result W64 fun (left ∷ right ∷ []) }
+fn on_two(width: Width, fun: Fun, left: Value, right: Value) -> Result<Value, Cause>
+    ensures { result ≡ call_result width fun (left ∷ right ∷ []) }
 {
     match fun {
-        Fun::Max => left.max(right),
-        Fun::Min => left.min(right),
+        Fun::Max => left.max(right, width),
+        Fun::Min => left.min(right, width),
         Fun::Mod => left.rem(right),
         Fun::Abs => Err(Cause::Range),
     }
 }
 
-/// The intrinsic's value at its arguments.
-pub fn intrinsic(fun: Fun, args: &[Value]) -> Result<Value, Cause>
-    ensures { result ≡ call_result W64 fun args.now }
+/// The intrinsic's value at its arguments; ring values are compared at the width of data.
+pub fn intrinsic(width: Width, fun: Fun, args: &[Value]) -> Result<Value, Cause>
+    ensures { result ≡ call_result width fun args.now }
 {
     match args {
         [value] => match fun {
-            Fun::Abs => value.abs(),
+            Fun::Abs => value.abs(width),
             _ => Err(Cause::Range),
         },
-        [left, right] => on_two(fun, *left, *right),
+        [left, right] => on_two(width, fun, *left, *right),
         _ => Err(Cause::Range),
     }
 }
 
 /// The numbers by which two values are compared; of two kinds the index value is converted to the ring kind.
-fn ranks(left: Value, right: Value) -> (i64, i64)
-    ensures { result ≡ ranks_lem W64 left right }
+fn ranks(width: Width, left: Value, right: Value) -> (i64, i64)
+    ensures { result ≡ ranks_lem width left right }
 {
     match left {
         Value::Index(index) => match right {
             Value::Index(other) => (i64::from(index.value()), i64::from(other.value())),
-            Value::Ring(dual) => (left.as_dual().value.signed(), dual.value.signed()),
+            Value::Ring(dual) => (
+                left.as_dual().value.signed_at(width),
+                dual.value.signed_at(width),
+            ),
         },
-        Value::Ring(dual) => (dual.value.signed(), right.as_dual().value.signed()),
+        Value::Ring(dual) => (
+            dual.value.signed_at(width),
+            right.as_dual().value.signed_at(width),
+        ),
     }
 }
 
@@ -288,10 +293,10 @@ fn compares_by(op: RelOp, left: i64, right: i64) -> bool
     }
 }
 
-/// Whether a relation holds. Ring values are compared by their representatives in -2^63 .. 2^63-1.
-pub fn relates(op: RelOp, left: Value, right: Value) -> bool
-    ensures { result ≡ relates_lem W64 op left right }
+/// Whether a relation holds. Ring values are compared by their representatives in -2^(B-1) .. 2^(B-1)-1, B being the width of data.
+pub fn relates(width: Width, op: RelOp, left: Value, right: Value) -> bool
+    ensures { result ≡ relates_lem width op left right }
 {
-    let (left, right) = ranks(left, right);
+    let (left, right) = ranks(width, left, right);
     compares_by(op, left, right)
 }

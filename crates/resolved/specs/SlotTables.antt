@@ -1,6 +1,6 @@
--- The names of a run with their slots: shapes, and kinds.
+-- The names of a run with their slots: shapes, kinds, and the width of data.
 use Rattle.std.specs.Prelude.{◌≡◌, ℕ, ◌<◌, ◌^◌, Bool, false, if◌then◌else◌, List, [], map, length, Option, Some, None, slice_get, Result, Ok, Err}
-use Rattle.ring_core.specs.declared.ring.Width.TheVariants.{W64}
+use Rattle.ring_core.specs.declared.ring.Width.{Width}
 use Rattle.fl_ast.specs.declared.kind.Kind.{Kind}
 use Rattle.fl_ast.specs.declared.kind.Kind.TheVariants as kind
 use Rattle.fl_ast.specs.declared.decl.Decl.{Decl}
@@ -9,11 +9,11 @@ use Rattle.store_core.specs.declared.layout.Shape.{Shape}
 use Rattle.store_core.specs.declared.layout.LayoutError.{LayoutError}
 use Rattle.store_core.specs.declared.layout.LayoutError.TheVariants.{TooManyPlaces, Memory}
 use Rattle.store_core.specs.Keys.{keys_of, slot_of, with_scalars}
-use Rattle.meaning.specs.Sites.{Site}
+use Rattle.meaning.specs.Sites.{Site, data_width}
 
--- the shapes of all names by slot, and their kinds
+-- the shapes of all names by slot, their kinds, and the width of data
 abbrev pub Names : Type 0
-Names = List Shape × List Kind
+Names = List Shape × List Kind × Width
 
 abbrev pub kind_or : Option Kind → Kind
 kind_or None = kind.Index
@@ -31,13 +31,13 @@ is_ring_at kinds (Some slot) = is_ring_kind (kind_at kinds slot)
 abbrev pub is_ring_in : Names → List ℕ → Bool
 is_ring_in names x = is_ring_at names.1 (slot_of names.0 x)
 
--- outside every parallel loop, the cells being those of the names, and data of eight bytes
+-- outside every parallel loop, the cells being those of the names
 abbrev pub table_site : Names → Site
 table_site names = record {
   keys = keys_of names.0;
   declared = [];
   ring = is_ring_in names;
-  width = W64;
+  width = names.2;
   pushed = λ x. false;
   outer = [];
   accessed = λ x. false;
@@ -53,7 +53,7 @@ kinds_of decls shapes = map (λ (s : Shape). named_kind decls s.name) shapes
 
 -- the names of a layout and declarations
 abbrev pub names_of : List Shape → List Decl → Names
-names_of shapes decls = (with_scalars shapes decls, kinds_of decls (with_scalars shapes decls))
+names_of shapes decls = (with_scalars shapes decls, kinds_of decls (with_scalars shapes decls), data_width decls)
 
 -- the table, or that it has too many names
 abbrev pub Tabulates : Result Names LayoutError → List Shape → List Decl → Type 0

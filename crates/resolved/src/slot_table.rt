@@ -1,30 +1,33 @@
 ghost use Rattle.std.specs.Prelude.{◌≡◌, ◌<◌, length, IfOk};
 ghost use Rattle.fl_types.specs.Sharing.{is_ring_name, is_ring_kind as is_ring_kind_lem};
 ghost use Rattle.resolved.specs.SlotTables.{kind_at, kinds_of, named_kind, table_site, Tabulates};
-ghost use Rattle.meaning.specs.Sites.{kind_of as kind_of_lem};
+ghost use Rattle.meaning.specs.Sites.{kind_of as kind_of_lem, width_of as width_of_lem, data_width as data_width_lem};
 ghost use Rattle.resolved.specs.ResolvedExprs.{slot_name};
 
 use fl_ast::{Decl, Kind, Memory, Name};
+use ring_core::Width;
 use std::alloc::Global;
 use std::marker::Model;
 use store_core::{Layout, LayoutError, Shape};
 
 /// The names of a run, which all have slots: those of a program's layout, and after them the scalars that live in a loop
-/// alone. Contracts see the shapes and the kinds, slot by slot.
+/// alone. Contracts see the shapes and the kinds, slot by slot, and the width of data.
 #[derive(Drop)]
 pub struct SlotTable {
     layout: Layout,
     kinds: Vec<Kind>,
+    width: Width,
 }
 
 impl Model for SlotTable {
     ghost use Rattle.std.specs.Prelude.{List, ◌≡◌, length};
     ghost use Rattle.fl_ast.specs.declared.kind.Kind.{Kind};
+    ghost use Rattle.ring_core.specs.declared.ring.Width.{Width};
     ghost use Rattle.store_core.specs.declared.layout.Shape.{Shape};
 
-    ghost Value = { List Shape × List Kind };
+    ghost Value = { List Shape × List Kind × Width };
 
-    ghost view = { λ table. (table.layout, table.kinds.items) };
+    ghost view = { λ table. (table.layout, table.kinds.items, table.width) };
 
     ghost use Rattle.store_core.specs.Keys.{HasEachOnce};
 
@@ -38,7 +41,12 @@ impl SlotTable {
     {
         let layout = layout.with_scalars(alloc, decls)?;
         let kinds = kinds(alloc, decls, layout.shapes())?;
-        Ok(SlotTable { layout, kinds })
+        let width = data_width(decls);
+        Ok(SlotTable {
+            layout,
+            kinds,
+            width,
+        })
     }
 
     /// Where each name has its cells.
@@ -46,6 +54,13 @@ impl SlotTable {
         ensures { result.now ≡ self.now.0 }
     {
         &self.layout
+    }
+
+    /// How many bits of a word the data of the program has.
+    pub fn width(&self) -> Width
+        ensures { result ≡ self.now.2 }
+    {
+        self.width
     }
 
     /// The kind of a slot's name.
@@ -65,6 +80,27 @@ fn is_ring_kind(kind: Kind) -> bool
         Kind::Ring => true,
         Kind::Index => false,
     }
+}
+
+fn width_of(bytes: u32) -> Width
+    ensures { result ≡ width_of_lem bytes }
+{
+    match bytes {
+        1 => Width::W8,
+        2 => Width::W16,
+        _ => Width::W64,
+    }
+}
+
+fn data_width(decls: &[Decl]) -> Width
+    ensures { result ≡ data_width_lem decls.now }
+{
+    for decl in decls {
+        if is_ring_kind(decl.kind) {
+            return width_of(decl.bytes);
+        }
+    }
+    Width::W64
 }
 
 fn is_ring(decls: &[Decl], name: &Name) -> bool
