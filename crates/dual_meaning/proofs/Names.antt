@@ -14,7 +14,7 @@ use Rattle.fl_ast.specs.Tree.{Statements}
 use Rattle.meaning.specs.Sites.{Cells, opening_site}
 use Rattle.meaning.specs.Statements.{run_all}
 use Rattle.meaning.specs.Sequential.{are_sequential}
-use Rattle.meaning.proofs.RunsByKeys.{runs_by_keys}
+use Rattle.meaning.proofs.Everywhere.{sequential_agree}
 use Rattle.dual_meaning.specs.declared.runner.RunStop.{RunStop}
 use Rattle.dual_meaning.specs.declared.runner.RunStop.TheVariants as stop
 use Rattle.dual_meaning.specs.Sequentially.{RunsSequentially}
@@ -77,7 +77,7 @@ ring_by_names es ds x = by_slot (slot_of (with_scalars es ds) x) refl
 -- at a program's opening, statements without parallel loops run as in its table
 pub opening_run : (es : List Shape) (ds : List Decl) (pushed : List ℕ → Bool) (body : Statements) (cells : Cells) → are_sequential body ≡ true
     → (run_all body (opening_site ds es pushed) cells).out ≡ (run_all body (table_site (names_of es ds)) cells).out
-opening_run es ds pushed body cells q = runs_by_keys (opening_site ds es pushed) (table_site (names_of es ds)) refl refl (λ x. sym (ring_by_names es ds x)) body q cells
+opening_run es ds pushed body cells q = sequential_agree (opening_site ds es pushed) (table_site (names_of es ds)) (record { keys = refl; width = refl; ring = λ x. sym (ring_by_names es ds x) }) body q cells
 
 opened : (es : List Shape) (ds : List Decl) (body stmts : Statements) (names : Names) (old : Cells) (pushed : List ℕ → Bool) → names ≡ names_of es ds → stmts ≡ body → are_sequential body ≡ true
     → (run_all body (opening_site ds es pushed) old).out ≡ (run_all stmts (table_site names) old).out

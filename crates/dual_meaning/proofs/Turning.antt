@@ -23,7 +23,8 @@ use Rattle.dual_meaning.proofs.Forms.{next, out_then, by_form_is}
 use Rattle.ring_core.specs.Index.{fits_index}
 use Rattle.dual_meaning.proofs.Counts.{computed}
 use Rattle.dual_meaning.proofs.Located.{place_by_slot}
-use Rattle.meaning.proofs.RunsByKeys.{line_agree, run_all_agree}
+use Rattle.meaning.proofs.RunsByKeys.{line_agree}
+use Rattle.meaning.proofs.Everywhere.{sequential_agree}
 
 noted_out : (t : Traced TrapAt Cells) (l : Log) → (t >>= with_log l).out ≡ t.out
 noted_out t l = out_then t (with_log l) ∙ by_out t.out
@@ -82,7 +83,7 @@ turn_run names variable t body k cells h q =
     let site = table_site names in
     let var = slot_name names.0 variable in
     ap (λ o. (run_all body (in_turn site var) (set_at o (Some (Index (value_at t k))) cells)).out) (sym (place_by_slot names variable [] h))
-    ∙ run_all_agree body q (in_turn site var) site (record { keys = refl; width = refl; ring = λ x. refl }) (set_at (place_in_slot names.0 variable []) (Some (Index (value_at t k))) cells)
+    ∙ sequential_agree (in_turn site var) site (record { keys = refl; width = refl; ring = λ x. refl }) body q (set_at (place_in_slot names.0 variable []) (Some (Index (value_at t k))) cells)
 
 -- a stop in a turn is the loop's
 pub turns_ran : (A B : Type 0) (names : Names) (variable : ℕ) (t : IterationCount) (body : Statements) (k : ℕ) (a b d : Cells) (e : RunStop) → variable < length names.0 → are_sequential body ≡ true → k < t.count

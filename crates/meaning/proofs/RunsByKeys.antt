@@ -1,12 +1,11 @@
--- Runs of statements without parallel loops at two sites with the same keys and kinds.
-use Rattle.std.specs.Prelude.{◌≡◌, ℕ, zero, suc, ◌+◌, ℤ, pos, Bool, true, false, if◌then◌else◌, List, [], ◌∷◌, Option, Some, None, Result, Ok, Err, slice_set, refl}
+-- Pieces of runs at two sites with the same keys and kinds.
+use Rattle.std.specs.Prelude.{◌≡◌, ℕ, zero, suc, ℤ, pos, Bool, true, false, if◌then◌else◌, List, [], ◌∷◌, Option, Some, None, Result, Ok, Err, slice_set, refl}
 use Rattle.std.proofs.Common.{ap, sym, ◌∙◌}
-use Rattle.std.proofs.lemmas.Bool.{and_parts}
 use Rattle.fl_ast.specs.declared.kind.Kind.TheVariants as kind
-use Rattle.fl_ast.specs.Tree.{Expression, Designator, Statement, assignment, branch, loop, Statements, no_statements, statement, Arms, no_arms, arm}
+use Rattle.fl_ast.specs.Tree.{Expression, Designator}
 use Rattle.fl_types.specs.declared.access.AccessKind.{AccessKind}
 use Rattle.fl_types.specs.declared.access.AccessKind.TheVariants.{Write}
-use Rattle.fl_types.specs.Increment.{Signed, rest_terms, increment_terms}
+use Rattle.fl_types.specs.Increment.{Signed}
 use Rattle.fl_types.specs.Accesses.{increment_kind}
 use Rattle.store_core.specs.Keys.{same_key, first_at}
 use Rattle.meaning.specs.declared.value.Dual.{Dual}
@@ -15,13 +14,11 @@ use Rattle.meaning.specs.declared.value.Value.TheVariants.{Index, Ring}
 use Rattle.meaning.specs.declared.value.Cause.{Cause}
 use Rattle.meaning.specs.declared.value.IterationCount.{IterationCount}
 use Rattle.meaning.specs.Values.{as_dual, as_kind, whole_numbers}
-use Rattle.meaning.specs.Logs.{single, pushes, right_side, condition, Traced, after, inside, at_line, at_line_by}
+use Rattle.meaning.specs.Logs.{single, pushes, right_side, Traced, after, inside, at_line, at_line_by}
 use Rattle.meaning.specs.Sites.{Key, Cells, with_tangent, Site, in_turn, place_of, kind_of}
-use Rattle.meaning.specs.Expressions.{content, value_of, values_of, holds}
-use Rattle.meaning.specs.Statements.{Run, with_log, store_at, after_push, put, plain_assignment, terms_of, incremented_dual, increment_cell, increment_place, increment, assignment_by, step_value, turns_of, value_at, set_at, turns, loop_words, one_turn, choice, in_arm, run, run_all, run_arms}
-use Rattle.meaning.specs.Sequential.{is_sequential, are_sequential, are_arms_sequential}
-use Rattle.meaning.specs.Laws.{SequentialRunsGoByKeys}
-use Rattle.meaning.proofs.ByKeys.{Agree, then_agree, touching_out, value_agree, values_agree, holds_agree}
+use Rattle.meaning.specs.Expressions.{content, value_of, values_of}
+use Rattle.meaning.specs.Statements.{Run, with_log, store_at, after_push, put, plain_assignment, terms_of, incremented_dual, increment_cell, increment_place, increment, assignment_by, step_value, turns_of, value_at, set_at, turns, one_turn, choice, in_arm}
+use Rattle.meaning.proofs.ByKeys.{Agree, then_agree, touching_out, value_agree, values_agree}
 
 -- the same keys, the same width, and the same names of the ring kind
 pub record Alike (s t : Site) : Type 0 where
@@ -118,40 +115,3 @@ chosen_agree false f g h k c e d = d
 
 pub in_arm_agree : (m : ℕ) (f g : Run) (c : Cells) → Agree (f c) (g c) → Agree (in_arm m f c) (in_arm m g c)
 in_arm_agree m f g c e = then_agree (f c) (g c) (with_log (single (pushes (Some (Index (pos m)))))) (with_log (single (pushes (Some (Index (pos m)))))) e (λ d. refl)
-
-mutual
-  run_agree : (b : Statement) → is_sequential b ≡ true → (s t : Site) → Alike s t → (c : Cells) → Agree (run b s c) (run b t c)
-  run_agree (assignment line atomic p e) q s t h c =
-      line_agree line (assignment_by s c atomic p e (increment_terms s.ring p e)) (assignment_by t c atomic p e (increment_terms t.ring p e))
-      (ap (λ b. (assignment_by s c atomic p e (if b then rest_terms p e else None)).out) (h.ring p.name) ∙ assigned_agree s t c atomic p e (increment_terms t.ring p e) h)
-  run_agree (branch line arms other) q s t h c =
-      let r : (are_arms_sequential arms ≡ true) × (are_sequential other ≡ true) = and_parts (are_arms_sequential arms) (are_sequential other) q in
-      arms_agree arms r.0 line 0 (run_all other) s t (λ d. run_all_agree other r.1 s t h d) h c
-  run_agree (loop line number None var first last step body) q s t h c =
-      then_agree (at_line line (turns_of first last step s c)) (at_line line (turns_of first last step t c)) _ _
-      (line_agree line (turns_of first last step s c) (turns_of first last step t c) (turns_of_agree s t c first last step h))
-      (λ u. then_agree (turns u.count (one_turn s var u (run_all body)) c) (turns u.count (one_turn t var u (run_all body)) c) (with_log (loop_words u)) (with_log (loop_words u))
-      (turns_agree u.count (one_turn s var u (run_all body)) (one_turn t var u (run_all body))
-      (one_turn_agree s t var u (run_all body) (run_all body) (run_all_agree body q (in_turn s var) (in_turn t var) (turned_alike s t var h)) h) c)
-      (λ d. refl))
-  run_agree (loop line number (Some directive) var first last step body) q s t h c = absurd (cc)
-
-  pub run_all_agree : (b : Statements) → are_sequential b ≡ true → (s t : Site) → Alike s t → (c : Cells) → Agree (run_all b s c) (run_all b t c)
-  run_all_agree no_statements q s t h c = refl
-  run_all_agree (statement b bs) q s t h c =
-      let r : (is_sequential b ≡ true) × (are_sequential bs ≡ true) = and_parts (is_sequential b) (are_sequential bs) q in
-      then_agree (run b s c) (run b t c) (run_all bs s) (run_all bs t) (run_agree b r.0 s t h c) (run_all_agree bs r.1 s t h)
-
-  arms_agree : (a : Arms) → are_arms_sequential a ≡ true → (line m : ℕ) (other : Site → Run) (s t : Site) → ((d : Cells) → Agree (other s d) (other t d)) → Alike s t
-      → (c : Cells) → Agree (run_arms a line m other s c) (run_arms a line m other t c)
-  arms_agree no_arms q line m other s t e h c = in_arm_agree m (other s) (other t) c (e c)
-  arms_agree (arm test body arms) q line m other s t e h c =
-      let r : (are_sequential body ≡ true) × (are_arms_sequential arms ≡ true) = and_parts (are_sequential body) (are_arms_sequential arms) q in
-      then_agree (inside (condition m) (at_line line (holds test s c))) (inside (condition m) (at_line line (holds test t c))) _ _
-      (line_agree line (holds test s c) (holds test t c) (holds_agree s t c h.keys h.width test))
-      (λ b. chosen_agree b (in_arm m (run_all body s)) (in_arm m (run_all body t)) (run_arms arms line (m + 1) other s) (run_arms arms line (m + 1) other t) c
-      (in_arm_agree m (run_all body s) (run_all body t) c (run_all_agree body r.0 s t h c))
-      (arms_agree arms r.1 line (m + 1) other s t e h c))
-
-pub runs_by_keys : SequentialRunsGoByKeys
-runs_by_keys = λ s t keys width ring body q c. run_all_agree body q s t (record { keys = keys; width = width; ring = ring }) c

@@ -1,5 +1,5 @@
 -- Laws of the meaning: what runs in different directions have in common.
-use Rattle.std.specs.Prelude.{◌≡◌, ℕ, ◌<◌, ℤ, pos, ◌+ℤ◌, ◌-ℤ◌, ◌*ℤ◌, int_div, List, [], ◌∷◌, map, Option, Some, None, true, Result, Ok, Err}
+use Rattle.std.specs.Prelude.{◌≡◌, ℕ, ◌<◌, ℤ, pos, ◌+ℤ◌, ◌-ℤ◌, ◌*ℤ◌, int_div, List, [], ◌∷◌, map, Option, Some, None, false, Result, Ok, Err}
 use Rattle.ring_core.specs.Index.{IsIndex}
 use Rattle.store_core.specs.Bounds.{clipped}
 use Rattle.ring_core.specs.Ring.{ring_add, ring_mul}
@@ -29,11 +29,12 @@ abbrev pub CellsAreReplayed : Type 0
 CellsAreReplayed =
     (body : Statements) (site : Site) (c d : Cells) → (run_all body site c).out ≡ Ok d → replay (run_all body site c).log (cells_along [] c) ≡ cells_along [] d
 
--- a run depends on the keys of the cells, the width of data, the kinds of names and the declared names alone: not on the loops around
--- it, nor on what is pushed or makes touches
+-- a run depends on the keys of the cells, the width of data and the kinds of names alone, and where there is a parallel loop on the
+-- declared names: not on the loops around it, nor on what is pushed or makes touches
 abbrev pub RunsGoByKeys : Type 0
 RunsGoByKeys =
-    (s t : Site) → s.keys ≡ t.keys → s.width ≡ t.width → s.declared ≡ t.declared → ((x : List ℕ) → s.ring x ≡ t.ring x) → (body : Statements) (cells : Cells) →
+    (s t : Site) → s.keys ≡ t.keys → s.width ≡ t.width → ((x : List ℕ) → s.ring x ≡ t.ring x) →
+    (body : Statements) → (are_sequential body ≡ false → s.declared ≡ t.declared) → (cells : Cells) →
     (run_all body s cells).out ≡ (run_all body t cells).out
 
 -- the first trap among events
@@ -91,9 +92,3 @@ abbrev pub VariablesFit : Type 0
 VariablesFit =
     (first last step : ℤ) (k : ℕ) → IsIndex first → IsIndex last → k < clipped (int_div ((last -ℤ first) +ℤ step) step) →
     IsIndex (first +ℤ (pos k *ℤ step))
-
--- without parallel loops, a run depends on the keys of the cells, on the width of data and on the kinds of names alone, not on the loops around it, nor on what is pushed
-abbrev pub SequentialRunsGoByKeys : Type 0
-SequentialRunsGoByKeys =
-    (s t : Site) → s.keys ≡ t.keys → s.width ≡ t.width → ((x : List ℕ) → s.ring x ≡ t.ring x) → (body : Statements) → are_sequential body ≡ true → (cells : Cells) →
-    (run_all body s cells).out ≡ (run_all body t cells).out

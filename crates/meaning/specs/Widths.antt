@@ -2,7 +2,7 @@
 use Rattle.std.specs.Prelude.{◌≡◌, ℕ, ◌%◌, [], ◌∷◌, Option, Some, None, Result, Ok, Err}
 use Rattle.ring_core.specs.declared.ring.Width.{Width}
 use Rattle.ring_core.specs.Ring.{modulus}
-use Rattle.ring_core.specs.declared.ring.Width.TheVariants.{W8, W16, W64}
+use Rattle.ring_core.specs.declared.ring.Width.TheVariants.{W8, W16}
 use Rattle.fl_ast.specs.declared.kind.BinOp.{BinOp}
 use Rattle.fl_ast.specs.declared.kind.RelOp.{RelOp}
 use Rattle.meaning.specs.declared.value.Dual.{Dual}

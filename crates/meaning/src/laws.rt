@@ -1,4 +1,4 @@
-ghost use Rattle.meaning.specs.Laws.{TangentsAreUnseen, TangentsAreLinear, ConflictIsReported, ValuesGoByKeys, VariablesFit, SequentialRunsGoByKeys, CellsAreReplayed, TrapsAreTold, RunsGoByKeys, ReportsAreOne};
+ghost use Rattle.meaning.specs.Laws.{TangentsAreUnseen, TangentsAreLinear, ConflictIsReported, ValuesGoByKeys, VariablesFit, CellsAreReplayed, TrapsAreTold, RunsGoByKeys, ReportsAreOne};
 ghost use Rattle.meaning.specs.Widths.{WidthsAreRespected, RunsRespectWidths};
 
 /// Values, events, conflicts and traps of a program don't depend on the tangents that it begins with.
@@ -24,11 +24,6 @@ pub fn values_go_by_keys()
 /// The variable of a loop never leaves the range of the index kind.
 pub fn variables_fit()
     ensures { VariablesFit }
-{}
-
-/// Without parallel loops, what a run does depends neither on the loops around it nor on what it pushes.
-pub fn sequential_runs_go_by_keys()
-    ensures { SequentialRunsGoByKeys }
 {}
 
 /// What a run's log tells of stores, replayed, makes the cells that it ends with.

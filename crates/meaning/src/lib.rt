@@ -13,7 +13,7 @@ pub use fitting::{
 };
 pub use laws::{
     cells_are_replayed, conflict_is_reported, reports_are_one, runs_go_by_keys,
-    runs_respect_widths, sequential_runs_go_by_keys, tangents_are_linear, tangents_are_unseen,
-    traps_are_told, values_go_by_keys, variables_fit, widths_are_respected,
+    runs_respect_widths, tangents_are_linear, tangents_are_unseen, traps_are_told,
+    values_go_by_keys, variables_fit, widths_are_respected,
 };
 pub use value::{Cause, Dual, IterationCount, TrapAt, Value};
