@@ -1,9 +1,9 @@
 -- Operations on data give what is left of their operands at a width.
-use Rattle.std.specs.Prelude.{◌≡◌, ℕ, zero, suc, ◌+◌, ◌*◌, ◌^◌, ◌%◌, Bool, true, false, if◌then◌else◌, ℤ, pos, int_le, int_lt, Ok, refl}
+use Rattle.std.specs.Prelude.{◌≡◌, ℕ, zero, suc, ◌+◌, ◌*◌, ◌^◌, ◌%◌, ◌<◌, [], ◌∷◌, Option, Some, None, Bool, true, false, if◌then◌else◌, ℤ, pos, int_le, int_lt, Ok, refl}
 use Rattle.std.specs.Int.{w8, w16, w64, cast_signed, cast_unsigned}
 use Rattle.std.proofs.Common.{ap, sym, ◌∙◌, arith}
 use Rattle.ring_core.specs.declared.ring.Width.{Width}
-use Rattle.ring_core.specs.declared.ring.Width.TheVariants.{W8, W16}
+use Rattle.ring_core.specs.declared.ring.Width.TheVariants.{W8, W16, W64}
 use Rattle.ring_core.specs.Ring.{ring_add, ring_sub, ring_mul, ring_neg, modulus, signed_at}
 use Rattle.ring_core.proofs.Modular.{modular}
 use Rattle.fl_ast.specs.declared.kind.BinOp.{BinOp}
@@ -12,18 +12,27 @@ use Rattle.meaning.specs.declared.value.Dual.{Dual}
 use Rattle.meaning.specs.declared.value.Value.{Value}
 use Rattle.meaning.specs.declared.value.Value.TheVariants.{Index, Ring}
 use Rattle.meaning.specs.Values.{Found, dual_add, dual_sub, dual_neg, dual_mul, dual_pow, as_dual, rank, ranks, ring_result, binary_result, negation_result, power_result, larger_result, smaller_result, absolute_result, compares}
-use Rattle.meaning.specs.Widths.{reduced_dual, reduced_value, reduced_found, OperationsRespect, WidthsAreRespected}
+use Rattle.meaning.specs.Sites.{Cells}
+use Rattle.meaning.specs.Widths.{reduced_dual, reduced_value, reduced_found, reduced_cell, reduced_cells, OperationsRespect, WidthsAreRespected, IsWordCell, WordsAreResidues}
 
 -- what is asked of a width: its modulus divides 2^64, and numbers are compared by what is left of them
 pub record Narrow (w : Width) : Type 0 where
   pub divides : (x : ℕ) → (x % 2 ^ 64) % modulus w ≡ x % modulus w
   pub signs : (a b : ℕ) → a % modulus w ≡ b % modulus w → signed_at w a ≡ signed_at w b
 
-pub narrow_8 : Narrow W8
+narrow_8 : Narrow W8
 narrow_8 = record { divides = λ x. omega arith; signs = λ a b e. ap (cast_signed w8) e }
 
-pub narrow_16 : Narrow W16
+narrow_16 : Narrow W16
 narrow_16 = record { divides = λ x. omega arith; signs = λ a b e. ap (cast_signed w16) e }
+
+narrow_64 : Narrow W64
+narrow_64 = record { divides = λ x. omega arith; signs = λ a b e. ap (cast_signed w64) e }
+
+pub narrow : (w : Width) → Narrow w
+narrow W8 = narrow_8
+narrow W16 = narrow_16
+narrow W64 = narrow_64
 
 abbrev pub Same : Width → ℕ → ℕ → Type 0
 Same w a b = a % modulus w ≡ b % modulus w
@@ -190,4 +199,17 @@ respect w k = record {
 }
 
 pub widths_respected : WidthsAreRespected
-widths_respected = (respect W8 narrow_8, respect W16 narrow_16)
+widths_respected = λ w. respect w (narrow w)
+
+small_word : (n : ℕ) → n < 2 ^ 64 → n % 18446744073709551616 ≡ n
+small_word n h = omega arith
+
+cell_residue : (o : Option Value) → IsWordCell o → reduced_cell W64 o ≡ o
+cell_residue None h = refl
+cell_residue (Some (Index z)) h = refl
+cell_residue (Some (Ring d)) h = ap (λ (v : ℕ). Some (Ring (record { value = v; tangent = d.tangent % 18446744073709551616 }))) (small_word d.value h.0)
+    ∙ ap (λ (t : ℕ). Some (Ring (record { value = d.value; tangent = t }))) (small_word d.tangent h.1)
+
+pub words_are_residues : WordsAreResidues
+words_are_residues [] h = refl
+words_are_residues (c ∷ cs) h = ap (λ (d : Option Value). d ∷ reduced_cells W64 cs) (cell_residue c h.0) ∙ ap (λ (ds : Cells). c ∷ ds) (words_are_residues cs h.1)

@@ -2,7 +2,6 @@
 use Rattle.std.specs.Prelude.{◌≡◌, ℕ, zero, suc, ◌+◌, ◌/◌, ◌%◌, ℤ, pos, Bool, true, false, not, ◌&&◌, ◌||◌, if◌then◌else◌, List, [], ◌∷◌, Option, Some, None, Result, Ok, Err, refl, slice_set}
 use Rattle.std.proofs.Common.{ap, sym, ◌∙◌}
 use Rattle.ring_core.specs.declared.ring.Width.{Width}
-use Rattle.ring_core.specs.declared.ring.Width.TheVariants.{W8, W16}
 use Rattle.fl_ast.specs.declared.kind.Kind.{Kind}
 use Rattle.fl_ast.specs.declared.kind.Kind.TheVariants as kind
 use Rattle.fl_ast.specs.declared.kind.RelOp.{RelOp}
@@ -27,7 +26,7 @@ use Rattle.meaning.specs.Sites.{Cells, with_tangent, Site, in_turn, in_iteration
 use Rattle.meaning.specs.Expressions.{after_touch, content, read_cell, read_place, read, value_of, values_of, holds}
 use Rattle.meaning.specs.Statements.{Run, with_log, store_at, after_push, put, plain_assignment, terms_of, incremented_dual, increment_cell, increment_place, increment, assignment_by, turns_by, step_value, turns_of, value_at, set_at, with_variable, turns, private_names, with_all_unset, unset_log, content_at, private_words, one_turn, Heads, iterations, with_variables, words_of_all, loop_words, further_turns, heads_of, one_iteration, run_turns, run_parallel, choice, in_arm, run, run_all, run_inner, run_within, run_arms}
 use Rattle.meaning.specs.Widths.{reduced_value, reduced_found, reduced_cell, reduced_cells, reduced_out, reduced_log, RunsRespect, RunsRespectWidths}
-use Rattle.meaning.proofs.Reducing.{Narrow, narrow_8, narrow_16, SameDual, SameValue, dual_same, same_of, as_same, add_duals, sub_duals, binary_same, negated_same, power_same, larger_same, smaller_same, absolute_same, ranks_same}
+use Rattle.meaning.proofs.Reducing.{Narrow, narrow, SameDual, SameValue, dual_same, same_of, as_same, add_duals, sub_duals, binary_same, negated_same, power_same, larger_same, smaller_same, absolute_same, ranks_same}
 
 abbrev Outs : {X A : Type 0} → (A → A → Type 0) → Result A X → Result A X → Type 0
 Outs Q (Ok a) (Ok b) = Q a b
@@ -491,4 +490,4 @@ respects w k body s e c d h =
     (t.log, outs_reduced w _ _ t.out)
 
 pub runs_respect : RunsRespectWidths
-runs_respect = (respects W8 narrow_8, respects W16 narrow_16)
+runs_respect = λ w. respects w (narrow w)

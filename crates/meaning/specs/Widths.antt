@@ -1,8 +1,8 @@
 -- What is left of a word at a width.
-use Rattle.std.specs.Prelude.{◌≡◌, ℕ, ◌%◌, [], ◌∷◌, Option, Some, None, Result, Ok, Err}
+use Rattle.std.specs.Prelude.{◌≡◌, ℕ, ◌%◌, ◌<◌, ◌^◌, [], ◌∷◌, Option, Some, None, Result, Ok, Err}
 use Rattle.ring_core.specs.declared.ring.Width.{Width}
 use Rattle.ring_core.specs.Ring.{modulus}
-use Rattle.ring_core.specs.declared.ring.Width.TheVariants.{W8, W16}
+use Rattle.ring_core.specs.declared.ring.Width.TheVariants.{W64}
 use Rattle.fl_ast.specs.declared.kind.BinOp.{BinOp}
 use Rattle.fl_ast.specs.declared.kind.RelOp.{RelOp}
 use Rattle.meaning.specs.declared.value.Dual.{Dual}
@@ -48,9 +48,22 @@ pub record OperationsRespect (w : Width) : Type 0 where
   pub smaller_value : (a b c d : Value) → reduced_value w a ≡ reduced_value w b → reduced_value w c ≡ reduced_value w d → reduced_found w (smaller_result w a c) ≡ reduced_found w (smaller_result w b d)
   pub absolute_value : (a b : Value) → reduced_value w a ≡ reduced_value w b → reduced_found w (absolute_result w a) ≡ reduced_found w (absolute_result w b)
 
--- at widths below that of a word; at 64 bits nothing is lost
 abbrev pub WidthsAreRespected : Type 0
-WidthsAreRespected = OperationsRespect W8 × OperationsRespect W16
+WidthsAreRespected = (w : Width) → OperationsRespect w
+
+-- a word is below 2^64
+abbrev pub IsWordCell : Option Value → Type 0
+IsWordCell None = Unit {0}
+IsWordCell (Some (Index z)) = Unit {0}
+IsWordCell (Some (Ring d)) = (d.value < 2 ^ 64) × (d.tangent < 2 ^ 64)
+
+abbrev pub AreWordCells : Cells → Type 0
+AreWordCells [] = Unit {0}
+AreWordCells (c ∷ cs) = IsWordCell c × AreWordCells cs
+
+-- with 64 bits nothing is lost
+abbrev pub WordsAreResidues : Type 0
+WordsAreResidues = (cells : Cells) → AreWordCells cells → reduced_cells W64 cells ≡ cells
 
 -- ---- whole runs
 
@@ -76,4 +89,4 @@ RunsRespect w =
     (reduced_log w (run_all body site c).log ≡ reduced_log w (run_all body site d).log) × (reduced_out w (run_all body site c).out ≡ reduced_out w (run_all body site d).out)
 
 abbrev pub RunsRespectWidths : Type 0
-RunsRespectWidths = RunsRespect W8 × RunsRespect W16
+RunsRespectWidths = (w : Width) → RunsRespect w

@@ -1,5 +1,5 @@
 ghost use Rattle.meaning.specs.Laws.{TangentsAreUnseen, TangentsAreLinear, ConflictIsReported, ValuesGoByKeys, VariablesFit, CellsAreReplayed, TrapsAreTold, RunsGoByKeys, ReportsAreOne};
-ghost use Rattle.meaning.specs.Widths.{WidthsAreRespected, RunsRespectWidths};
+ghost use Rattle.meaning.specs.Widths.{WidthsAreRespected, WordsAreResidues, RunsRespectWidths};
 
 /// Values, events, conflicts and traps of a program don't depend on the tangents that it begins with.
 pub fn tangents_are_unseen()
@@ -31,12 +31,14 @@ pub fn cells_are_replayed()
     ensures { CellsAreReplayed }
 {}
 
-/// On data of one or two bytes, what an operation gives depends on what is left of its operands modulo 2^8 or 2^16 alone.
+/// On data of B bits, what an operation gives depends on what is left of its operands modulo 2^B alone. With 64 bits that is
+/// the word itself.
 pub fn widths_are_respected()
-    ensures { WidthsAreRespected }
+    ensures operations { WidthsAreRespected }
+    ensures words { WordsAreResidues }
 {}
 
-/// Runs on data of one or two bytes from cells that are equal modulo 2^8 or 2^16 stay so, with their logs and stops.
+/// Runs on data of B bits from cells that are equal modulo 2^B stay so, with their logs and stops.
 pub fn runs_respect_widths()
     ensures { RunsRespectWidths }
 {}
