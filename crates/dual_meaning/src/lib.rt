@@ -8,6 +8,3 @@ mod sequential;
 pub use evaluator::{EvalStop, evaluate, holds};
 pub use runner::{RunStop, run_statements};
 pub use sequential::{RunError, run_sequential};
-
-#[cfg(test)]
-mod tests;

@@ -1,5 +1,5 @@
 -- Two loops collapsed compute.
-use Rattle.std.specs.Prelude.{◌≡◌, ℕ, pos, List, [], ◌∷◌, map, None, Some, refl, codes, Ok, Option}
+use Rattle.std.specs.Prelude.{◌≡◌, ◌==◌, if◌then◌else◌, ℕ, pos, List, [], ◌∷◌, map, None, Some, refl, codes, Ok, Option}
 use Rattle.fl_ast.specs.declared.kind.Kind.TheVariants as kind
 use Rattle.fl_ast.specs.declared.decl.Decl.{Decl}
 use Rattle.fl_ast.specs.declared.directive.Directive.{Directive}
@@ -13,7 +13,8 @@ use Rattle.fl_types.specs.Sharing.{ParallelLoop, loop_of, sharing_of}
 use Rattle.fl_types.specs.Accesses.{Occurrence, loop_accesses}
 use Rattle.store_core.specs.declared.layout.Shape.{Shape}
 use Rattle.meaning.specs.declared.value.Cause.TheVariants.{ZeroDivisor}
-use Rattle.meaning.specs.Logs.{Event, begins, touches, pushes, ends, events}
+use Rattle.meaning.specs.declared.value.Value.{Value}
+use Rattle.meaning.specs.Logs.{Event, begins, touches, pushes, ends, events, Note, tells, stores, notes}
 use Rattle.meaning.specs.Sites.{Cells, Site, opening_site}
 use Rattle.meaning.specs.Statements.{run_all}
 use Rattle.meaning.specs.Stops.{by_conflict, the_limits, Stop, first_stop, trapped, conflicted}
@@ -84,6 +85,23 @@ pub lin_events : events (run_all lin site cells).log
     (ends 5 ∷ pushes (number 1) ∷ pushes (number 2) ∷ pushes (number 1) ∷ pushes (number 1) ∷ pushes (number 4) ∷ pushes (number 1) ∷ []))))))))
 unfolding exact_index
 lin_events = refl
+
+-- what is stored at a place
+abbrev stored_at : ℕ → List Note → List (Option Value)
+stored_at p [] = []
+stored_at p (tells e ∷ ns) = stored_at p ns
+stored_at p (stores q v ∷ ns) = if q == p then v ∷ stored_at p ns else stored_at p ns
+
+-- the two variables in the eight iterations, the inner one running faster
+pub lin_outer : stored_at 17 (notes (run_all lin site cells).log)
+    ≡ number 1 ∷ number 1 ∷ number 1 ∷ number 1 ∷ number 2 ∷ number 2 ∷ number 2 ∷ number 2 ∷ []
+unfolding exact_index
+lin_outer = refl
+
+pub lin_inner : stored_at 18 (notes (run_all lin site cells).log)
+    ≡ number 1 ∷ number 2 ∷ number 3 ∷ number 4 ∷ number 1 ∷ number 2 ∷ number 3 ∷ number 4 ∷ []
+unfolding exact_index
+lin_inner = refl
 
 abbrev stop : Statements → Stop
 stop body = first_stop by_conflict the_limits (events (run_all body site cells).log)

@@ -2,7 +2,7 @@
 use Rattle.std.specs.Prelude.{◌≡◌, ℕ, suc, List, [], ◌∷◌, ◌++◌, Option, None, refl, codes}
 use Rattle.fl_ast.specs.declared.kind.Kind.TheVariants as kind
 use Rattle.fl_ast.specs.declared.directive.Directive.{Directive}
-use Rattle.fl_ast.specs.Tree.{Statements, statement}
+use Rattle.fl_ast.specs.Tree.{Statements, statement, loop}
 use Rattle.ring_core.specs.Index.{exact_index}
 use Rattle.fl_types.specs.declared.access.AccessKind.{AccessKind}
 use Rattle.fl_types.specs.declared.access.AccessKind.TheVariants.{Read, Write}
@@ -11,6 +11,7 @@ use Rattle.meaning.specs.Logs.{Event, touches, begins, pushes, ends, Passage, in
 use Rattle.meaning.specs.Sites.{Cells, Site, opening_site}
 use Rattle.meaning.specs.Expressions.{content}
 use Rattle.meaning.specs.Statements.{run_all}
+use Rattle.meaning.specs.Programs.{tape_words}
 use Rattle.meaning.specs.Stops.{by_conflict, the_limits, first_stop, at_end, conflicted, ticks, cells_at_stop}
 use Rattle.meaning.proofs.Small.{declared, scalar, array, word, number, one, name, at, to, into, ◌plus◌, ◌times◌, only, set, clauses, parallel, all_pushed}
 
@@ -138,6 +139,22 @@ pub sum_at_stop : cells_at_stop by_conflict the_limits (run_all sum (site 2) cel
     ≡ number 2 ∷ word 3 ∷ word 5 ∷ word 9 ∷ word 2 ∷ number 2 ∷ None ∷ []
 unfolding exact_index
 sum_at_stop = refl
+
+-- do i = 1, n
+--   x(i) = x(i)*x(i)
+abbrev powers : Statements
+powers = only (loop 4 1 None i (one 1) (name n) None (only (set 5 (into x (name i)) (at x (name i) times at x (name i)))))
+
+-- with four statement instances allowed, the run stops in the second turn, whose variable is stored and whose element isn't
+pub powers_at_stop : cells_at_stop by_conflict (record the_limits { statements = 4 }) (run_all powers (site 2) cells).log cells
+    ≡ number 2 ∷ word 9 ∷ word 5 ∷ word 1 ∷ word 2 ∷ number 2 ∷ None ∷ []
+unfolding exact_index
+powers_at_stop = refl
+
+-- the tape of the whole run: the old values of x, and the words of the loop
+pub powers_tape : tape_words (events (run_all powers (site 2) cells).log) ≡ 3 ∷ 5 ∷ 1 ∷ 2 ∷ 1 ∷ []
+unfolding exact_index
+powers_tape = refl
 
 -- contents compute from the front
 pub content_more : (c : Option Value) (s : Cells) (p : ℕ) → content (c ∷ s) (suc p) ≡ content s p

@@ -4,7 +4,7 @@ use dual_meaning::{RunError, holds, run_sequential};
 use fl_ast::{Decl, Stmt};
 use fl_base::Items;
 use meaning::{Cause, Dual, Value};
-use resolved::{SlotTable, resolve_test};
+use resolved::{SlotTable, resolve_condition};
 use ring_core::Ring;
 use std::alloc::Global;
 use std::test::Fail;
@@ -85,7 +85,7 @@ fn a_step_of_zero_traps_at_its_loop(rt: HostRuntime) -> Result<(), Fail> {
 fn a_relation_compares_values(rt: HostRuntime) -> Result<(), Fail> {
     let indexed = tree(rt.alloc(), INDEXED)?;
     let table = SlotTable::of(rt.alloc(), &layout(rt.alloc())?, indexed.decls.as_slice())?;
-    let test = resolve_test(rt.alloc(), table.layout(), &less(rt.alloc())?)?;
+    let test = resolve_condition(rt.alloc(), table.layout(), &less(rt.alloc())?)?;
     assert!(rt; !holds(rt.alloc(), &table, &[moving(5), None, None], &test)?);
     Ok(())
 }
