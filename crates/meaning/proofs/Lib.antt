@@ -19,6 +19,8 @@ mod Collapsed
 pub mod Reducing
 mod Bytes
 pub mod Widely
+pub mod Quiet
+pub mod LogFold
 pub mod TrapProofs
 pub mod Everywhere
 pub mod Once
