@@ -33,3 +33,6 @@ pub mod Storing
 pub mod Soundly
 pub mod FittingProofs
 mod Fitted
+pub mod Entries
+pub mod NamesOfKinds
+pub mod Laying

@@ -1,4 +1,4 @@
-ghost use Rattle.meaning.specs.FittingLaws.{FittingIsByPlace, ValuesFit, ConditionsAreDefined, CountsFit, RunsFit, GroupsTouch};
+ghost use Rattle.meaning.specs.FittingLaws.{FittingIsByPlace, ValuesFit, ConditionsAreDefined, CountsFit, RunsFit, EntriesFit, DirectionsFit, KindsGoByNames, EntriesAreKinded, GroupsTouch};
 ghost use Rattle.meaning.specs.Frame.{NamesAreKept, CellsAreKept};
 ghost use Rattle.meaning.specs.Reached.{RunsAreSound};
 
@@ -30,6 +30,26 @@ pub fn runs_fit()
 /// Each statement that such a run reaches is run in fitting cells, and evaluates only what is defined.
 pub fn runs_are_sound()
     ensures { RunsAreSound }
+{}
+
+/// Every program starts in fitting cells.
+pub fn entries_fit()
+    ensures { EntriesFit }
+{}
+
+/// Whether cells fit doesn't depend on their tangents.
+pub fn directions_fit()
+    ensures { DirectionsFit }
+{}
+
+/// Whether a tree is well kinded depends on the kinds of its names and on how many subscripts they have.
+pub fn kinds_go_by_names()
+    ensures { KindsGoByNames }
+{}
+
+/// A body that is well kinded by its declarations is so at the entry of the program.
+pub fn entries_are_kinded()
+    ensures { EntriesAreKinded }
 {}
 
 /// A run ends with as many cells as it began with.
