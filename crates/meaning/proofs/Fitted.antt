@@ -27,7 +27,7 @@ use Rattle.meaning.specs.Statements.{run, run_all}
 use Rattle.meaning.specs.Fitting.{names_at, HasKind, CellsFit, Fits, IsWellKinded}
 use Rattle.meaning.specs.Touches.{touches_in, touch_of, scope_at}
 use Rattle.meaning.specs.Reached.{HoldsAtAll, IsSound}
-use Rattle.meaning.specs.Frame.{held}
+use Rattle.meaning.specs.Frame.{content_by_name}
 use Rattle.meaning.proofs.FittingProofs.{runs_fitting}
 use Rattle.meaning.proofs.Laying.{entries_kinded}
 use Rattle.meaning.proofs.Soundly.{runs_sound}
@@ -145,7 +145,7 @@ pub squares_sound : HoldsAtAll IsSound squares site cells
 squares_sound = runs_sound squares site cells squares_are_kinded cells_are_fitting
 
 -- s isn't written
-pub squares_keep : held site (number 2 ∷ number 2 ∷ number 1 ∷ word 5 ∷ word 9 ∷ word 16 ∷ number 2 ∷ None ∷ word 3 ∷ []) s [] ≡ word 5
+pub squares_keep : content_by_name site (number 2 ∷ number 2 ∷ number 1 ∷ word 5 ∷ word 9 ∷ word 16 ∷ number 2 ∷ None ∷ word 3 ∷ []) s [] ≡ word 5
 squares_keep = names_kept squares site cells _ squares_end s refl []
 
 -- ---- nested loops and an increment

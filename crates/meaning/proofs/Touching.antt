@@ -21,7 +21,7 @@ use Rattle.meaning.specs.Logs.{Touch, Event, begins, touches, pushes, ends, trap
 use Rattle.meaning.specs.Sites.{Cells, with_tangent, Site, place_of, kind_of}
 use Rattle.meaning.specs.Expressions.{after_touch, content, read_cell, read_place, read, value_of, values_of, holds}
 use Rattle.meaning.specs.Statements.{store_at, after_push, put, plain_assignment, terms_of, incremented_dual, increment_cell, increment_place, increment, assignment_by, turns_by, step_value, turns_of}
-use Rattle.meaning.specs.Touches.{touches_among, touches_in, scope_at, place_at, designated_place, touch_of, AreTouches, TouchesAreAccesses}
+use Rattle.meaning.specs.Touches.{touches_among, touches_in, scope_at, place_at, designated_place, touch_of, AreTouches, GroupTouches}
 
 -- ---- logs
 
@@ -216,7 +216,7 @@ turns_touch first last step s cells line path =
     (λ v h. then_touching s cells (value_of last s cells) _ (reads (scope_at s) line path last) (step_reads (scope_at s) line path step) (value_touches last s cells line path)
     (λ w g. then_quiet s cells (step_value step s cells) _ (step_reads (scope_at s) line path step) (step_touches step s cells line path) (λ u. by_turns_quiet (whole_number v) (whole_number w) (whole_number u))))
 
-pub touches_are_accesses : (s : Site) (cells : Cells) (line : ℕ) (path : List PathStep) → TouchesAreAccesses s cells line path
+pub touches_are_accesses : (s : Site) (cells : Cells) (line : ℕ) (path : List PathStep) → GroupTouches s cells line path
 touches_are_accesses s cells line path = record {
   of_assignment = λ atomic p a number d e. line_touches s cells line (assignment_by s cells atomic p a (increment_terms s.ring p a)) _ (assigned_touches s cells line path atomic p a (increment_terms s.ring p a)) d e;
   of_condition = λ c b e. condition_touches c s cells line path b e;

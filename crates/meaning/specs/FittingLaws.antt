@@ -16,7 +16,7 @@ use Rattle.meaning.specs.Adjoints.{cells_along}
 use Rattle.meaning.specs.Programs.{entry_site, entry_cells}
 use Rattle.meaning.specs.Fitting.{names_at, HasKind, CellFits, Fits, IsWellKinded}
 use Rattle.meaning.specs.Defined.{IsDefined, IsDefinedCondition, IsFittingCount}
-use Rattle.meaning.specs.Touches.{TouchesAreAccesses}
+use Rattle.meaning.specs.Touches.{GroupTouches}
 
 -- as many cells as keys, each of which fits its key
 pub record FitsByPlace (site : Site) (cells : Cells) : Type 0 where
@@ -80,5 +80,5 @@ EntriesAreKinded =
     (decls : List Decl) (shapes : List Shape) (pushed : List ℕ → Bool) → are_declared_shapes decls shapes ≡ true →
     (body : Statements) → are_well_kinded_statements (declared_names decls) body ≡ true → IsWellKinded (opening_site decls shapes pushed) body
 
-abbrev pub GroupsTouch : Type 0
-GroupsTouch = (site : Site) (cells : Cells) (line : ℕ) (path : List PathStep) → TouchesAreAccesses site cells line path
+abbrev pub TouchesAreAccesses : Type 0
+TouchesAreAccesses = (site : Site) (cells : Cells) (line : ℕ) (path : List PathStep) → GroupTouches site cells line path

@@ -1,4 +1,4 @@
-ghost use Rattle.meaning.specs.FittingLaws.{FittingIsByPlace, ValuesFit, ConditionsAreDefined, CountsFit, RunsFit, EntriesFit, DirectionsFit, KindsGoByNames, EntriesAreKinded, GroupsTouch};
+ghost use Rattle.meaning.specs.FittingLaws.{FittingIsByPlace, ValuesFit, ConditionsAreDefined, CountsFit, RunsFit, EntriesFit, DirectionsFit, KindsGoByNames, EntriesAreKinded, TouchesAreAccesses};
 ghost use Rattle.meaning.specs.Frame.{NamesAreKept, CellsAreKept};
 ghost use Rattle.meaning.specs.Reached.{RunsAreSound};
 
@@ -63,6 +63,6 @@ pub fn names_are_kept()
 {}
 
 /// What an assignment, a condition or the bounds of a loop touch are its accesses, in order.
-pub fn groups_touch()
-    ensures { GroupsTouch }
+pub fn touches_are_accesses()
+    ensures { TouchesAreAccesses }
 {}
