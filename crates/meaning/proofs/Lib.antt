@@ -36,3 +36,4 @@ mod Fitted
 pub mod Entries
 pub mod NamesOfKinds
 pub mod Laying
+pub mod GroupTouching

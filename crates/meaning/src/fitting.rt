@@ -1,4 +1,5 @@
 ghost use Rattle.meaning.specs.FittingLaws.{FittingIsByPlace, ValuesFit, ConditionsAreDefined, CountsFit, RunsFit, EntriesFit, DirectionsFit, KindsGoByNames, EntriesAreKinded, TouchesAreAccesses};
+ghost use Rattle.meaning.specs.Groups.{RunsTouch, IterationsTouch};
 ghost use Rattle.meaning.specs.Frame.{NamesAreKept, CellsAreKept};
 ghost use Rattle.meaning.specs.Reached.{RunsAreSound};
 
@@ -65,4 +66,14 @@ pub fn names_are_kept()
 /// What an assignment, a condition or the bounds of a loop touch are its accesses, in order.
 pub fn touches_are_accesses()
     ensures { TouchesAreAccesses }
+{}
+
+/// A run without parallel loops touches what the groups that it evaluates access, in order, and each stands among its accesses.
+pub fn runs_touch()
+    ensures { RunsTouch }
+{}
+
+/// An iteration of a parallel loop touches what the groups that it evaluates access, in order, and each stands among the loop's.
+pub fn iterations_touch()
+    ensures { IterationsTouch }
 {}
