@@ -1,16 +1,18 @@
 -- Kinds of expressions, and trees in which every operation has operands of kinds that it is defined for.
-use Rattle.std.specs.Prelude.{ℕ, ◌+◌, Bool, true, false, ◌&&◌, if◌then◌else◌, nat_lt, List, [], ◌∷◌, Option, Some, None}
-use Rattle.std.specs.List.{list_all}
+use Rattle.std.specs.Prelude.{ℕ, ◌+◌, Bool, true, false, ◌&&◌, if◌then◌else◌, nat_lt, nat_eq, bytes_eq, List, [], ◌∷◌, length, Option, Some, None}
+use Rattle.std.specs.List.{list_all, list_any}
 use Rattle.fl_ast.specs.declared.kind.Kind.{Kind}
 use Rattle.fl_ast.specs.declared.kind.Kind.TheVariants.{Index, Ring}
 use Rattle.fl_ast.specs.declared.kind.BinOp.{BinOp}
 use Rattle.fl_ast.specs.declared.kind.BinOp.TheVariants.{Add, Sub, Mul, Div}
 use Rattle.fl_ast.specs.declared.kind.Fun.{Fun}
 use Rattle.fl_ast.specs.declared.kind.Fun.TheVariants.{Max, Min, Abs, Mod}
+use Rattle.fl_ast.specs.declared.decl.Decl.{Decl}
 use Rattle.fl_ast.specs.declared.directive.Directive.{Directive}
 use Rattle.fl_ast.specs.Tree.{Expression, literal, get, minus, binary, power, call, Expressions, no_expressions, expression, Designator, Condition, relation, negation, conjunction, disjunction, Statement, assignment, branch, loop, Statements, no_statements, statement, Arms, no_arms, arm}
 use Rattle.fl_ast.specs.Same.{same_kind}
 use Rattle.fl_types.specs.Increment.{target_of}
+use Rattle.fl_types.specs.Sharing.{is_ring_name}
 
 -- what is known of names: which are of the ring kind, and with how many subscripts each may stand
 pub record Names : Type 0 where
@@ -135,3 +137,11 @@ abbrev mutual
   are_well_kinded_arms names no_arms = true
   are_well_kinded_arms names (arm test body arms) =
       is_well_kinded_condition names test && (are_well_kinded_statements names body && are_well_kinded_arms names arms)
+
+-- ---- the names of declarations
+
+abbrev pub has_declared_rank : List Decl → List ℕ → ℕ → Bool
+has_declared_rank decls x n = list_any (λ (d : Decl). bytes_eq x d.name && nat_eq (length d.dims) n) decls
+
+abbrev pub declared_names : List Decl → Names
+declared_names decls = record { ring = is_ring_name decls; has_rank = has_declared_rank decls }

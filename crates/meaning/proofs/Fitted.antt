@@ -9,11 +9,14 @@ use Rattle.fl_ast.specs.declared.kind.Kind.TheVariants as kind
 use Rattle.fl_ast.specs.declared.kind.BinOp.TheVariants.{Div}
 use Rattle.fl_ast.specs.declared.kind.RelOp.TheVariants.{Gt}
 use Rattle.fl_ast.specs.declared.kind.Fun.TheVariants.{Max, Mod}
+use Rattle.fl_ast.specs.declared.kind.Intent.TheVariants.{Unsaid}
+use Rattle.fl_ast.specs.declared.decl.Factor.TheVariants.{Lit}
+use Rattle.fl_ast.specs.declared.decl.Bound.{Bound}
 use Rattle.fl_ast.specs.declared.decl.Decl.{Decl}
 use Rattle.fl_ast.specs.declared.directive.Directive.{Directive}
 use Rattle.fl_ast.specs.Tree.{binary, call, no_expressions, expression, relation, Statement, branch, loop, Statements, no_statements, statement, no_arms, arm}
 use Rattle.fl_types.specs.declared.access.AccessKind.TheVariants.{Read, Update}
-use Rattle.fl_types.specs.Kinds.{are_well_kinded_statements}
+use Rattle.fl_types.specs.Kinds.{are_well_kinded_statements, declared_names}
 use Rattle.fl_types.specs.Accesses.{accesses}
 use Rattle.store_core.specs.declared.layout.Shape.{Shape}
 use Rattle.meaning.specs.declared.value.Value.{Value}
@@ -24,8 +27,9 @@ use Rattle.meaning.specs.Statements.{run, run_all}
 use Rattle.meaning.specs.Fitting.{names_at, HasKind, CellsFit, Fits, IsWellKinded}
 use Rattle.meaning.specs.Touches.{touches_in, touch_of, scope_at}
 use Rattle.meaning.specs.Reached.{HoldsAtAll, IsSound}
-use Rattle.meaning.specs.Frame.{held}
+use Rattle.meaning.specs.Frame.{content_by_name}
 use Rattle.meaning.proofs.FittingProofs.{runs_fitting}
+use Rattle.meaning.proofs.Laying.{entries_kinded}
 use Rattle.meaning.proofs.Soundly.{runs_sound}
 use Rattle.meaning.proofs.Storing.{names_kept}
 use Rattle.meaning.proofs.Small.{declared, scalar, array, word, number, one, name, at, to, into, ◌plus◌, ◌times◌, only, set, clauses, parallel, all_pushed}
@@ -89,10 +93,16 @@ x = codes "x"
 abbrev y : List ℕ
 y = codes "y"
 
+-- a name declared with its upper bound
+abbrev declared_array : Kind → List ℕ → ℕ → Decl
+declared_array k z m =
+    let upper : Bound = record { first = record { first = Lit m; second = None }; rest = None } in
+    record { line = 2; name = z; kind = k; bytes = 8; intent = Unsaid; dims = record { lower = None; upper = upper } ∷ [] }
+
 abbrev decls : List Decl
 decls =
-    declared kind.Index n ∷ declared kind.Index i ∷ declared kind.Index j ∷ declared kind.Index c ∷ declared kind.Ring t ∷ declared kind.Ring s
-    ∷ declared kind.Ring x ∷ declared kind.Ring y ∷ []
+    declared kind.Index n ∷ declared kind.Index i ∷ declared kind.Index j ∷ declared_array kind.Index c 2 ∷ declared kind.Ring t ∷ declared kind.Ring s
+    ∷ declared_array kind.Ring x 2 ∷ declared_array kind.Ring y 0 ∷ []
 
 -- arguments n, c(2), s, x(2), y(0), which has no elements
 abbrev shapes : List Shape
@@ -100,6 +110,10 @@ shapes = scalar n ∷ array c 2 ∷ scalar s ∷ array x 2 ∷ array y 0 ∷ []
 
 abbrev site : Site
 site = opening_site decls shapes all_pushed
+
+-- a body is well kinded at the site where it is so by its declarations
+by_declarations : (body : Statements) → are_well_kinded_statements (declared_names decls) body ≡ true → IsWellKinded site body
+by_declarations body h = entries_kinded decls shapes all_pushed refl body h
 
 -- i, j and t have cells after those of the arguments
 abbrev cells : Cells
@@ -118,7 +132,7 @@ abbrev squares : Statements
 squares = parallel with_private i (one 1) (name n) (statement (set 6 (to t) (at x (at c (name i)))) (only (set 7 (into x (at c (name i))) (name t times name t))))
 
 squares_are_kinded : IsWellKinded site squares
-squares_are_kinded = refl
+squares_are_kinded = by_declarations squares refl
 
 pub squares_end : (run_all squares site cells).out ≡ Ok (number 2 ∷ number 2 ∷ number 1 ∷ word 5 ∷ word 9 ∷ word 16 ∷ number 2 ∷ None ∷ word 3 ∷ [])
 unfolding exact_index
@@ -131,7 +145,7 @@ pub squares_sound : HoldsAtAll IsSound squares site cells
 squares_sound = runs_sound squares site cells squares_are_kinded cells_are_fitting
 
 -- s isn't written
-pub squares_keep : held site (number 2 ∷ number 2 ∷ number 1 ∷ word 5 ∷ word 9 ∷ word 16 ∷ number 2 ∷ None ∷ word 3 ∷ []) s [] ≡ word 5
+pub squares_keep : content_by_name site (number 2 ∷ number 2 ∷ number 1 ∷ word 5 ∷ word 9 ∷ word 16 ∷ number 2 ∷ None ∷ word 3 ∷ []) s [] ≡ word 5
 squares_keep = names_kept squares site cells _ squares_end s refl []
 
 -- ---- nested loops and an increment

@@ -35,3 +35,7 @@ pub mod Storing
 pub mod Soundly
 pub mod FittingProofs
 mod Fitted
+pub mod Entries
+pub mod NamesOfKinds
+pub mod Laying
+pub mod GroupTouching

@@ -28,7 +28,7 @@ use Rattle.meaning.specs.Logs.{Log, single, both, ends, right_side, rounds, cond
 use Rattle.meaning.specs.Sites.{Key, Cells, Site, in_turn, in_iteration, place_of, kind_of}
 use Rattle.meaning.specs.Expressions.{content, value_of, values_of, holds}
 use Rattle.meaning.specs.Statements.{Run, with_log, store_at, after_push, put, plain_assignment, terms_of, incremented_dual, increment_cell, increment_place, increment, assignment_by, turns_of, value_at, set_at, with_variable, turns, loop_words, private_names, with_all_unset, unset_log, content_at, private_words, one_turn, Heads, iterations, with_variables, words_of_all, further_turns, heads_of, one_iteration, run_turns, run_parallel, choice, in_arm, run, run_all, run_inner, run_within, run_arms}
-use Rattle.meaning.specs.Frame.{held, NamesAreKept, CellsAreKept}
+use Rattle.meaning.specs.Frame.{content_by_name, NamesAreKept, CellsAreKept}
 use Rattle.meaning.proofs.Gives.{Gives, gives_value, gives_none, then_gives, line_gives, touching_gives, saving_gives}
 use Rattle.meaning.proofs.Contents.{content_set_other, place_named}
 
@@ -258,7 +258,7 @@ cells_kept = λ body s c d e. run_all_goes (λ x. Unit {0}) (λ b a. length a �
 
 -- ---- names that aren't written
 
-frames : (s : Site) (x : List ℕ) → Steps s.keys (λ y. bytes_eq x y ≡ false) (λ c d. (ss : List ℤ) → held s d x ss ≡ held s c x ss)
+frames : (s : Site) (x : List ℕ) → Steps s.keys (λ y. bytes_eq x y ≡ false) (λ c d. (ss : List ℤ) → content_by_name s d x ss ≡ content_by_name s c x ss)
 frames s x = record {
   same = λ c ss. refl;
   joins = λ b c d h g ss. g ss ∙ h ss;
@@ -278,7 +278,7 @@ frames s x = record {
 pub names_kept : NamesAreKept
 names_kept body s c d e x n ss =
     let p = or_parts (assigns_in x body) (scopes_in x body) n in
-    run_all_goes (λ y. bytes_eq x y ≡ false) (λ b a. (ts : List ℤ) → held s a x ts ≡ held s b x ts) body s (frames s x)
+    run_all_goes (λ y. bytes_eq x y ≡ false) (λ b a. (ts : List ℤ) → content_by_name s a x ts ≡ content_by_name s b x ts) body s (frames s x)
     (λ y f. apart y (assigns_in x body) p.0 (λ i. ap (λ (z : List ℕ). assigns_in z body) i ∙ f))
     (λ y f. apart y (scopes_in x body) p.1 (λ i. ap (λ (z : List ℕ). scopes_in z body) i ∙ f)) c d e ss
   where

@@ -21,11 +21,11 @@ use Rattle.meaning.specs.Logs.{Touch, Event, begins, touches, pushes, ends, trap
 use Rattle.meaning.specs.Sites.{Cells, with_tangent, Site, place_of, kind_of}
 use Rattle.meaning.specs.Expressions.{after_touch, content, read_cell, read_place, read, value_of, values_of, holds}
 use Rattle.meaning.specs.Statements.{store_at, after_push, put, plain_assignment, terms_of, incremented_dual, increment_cell, increment_place, increment, assignment_by, turns_by, step_value, turns_of}
-use Rattle.meaning.specs.Touches.{touches_among, touches_in, scope_at, place_at, designated_place, touch_of, AreTouches, TouchesAreAccesses}
+use Rattle.meaning.specs.Touches.{touches_among, touches_in, scope_at, place_at, designated_place, touch_of, AreTouches, GroupTouches}
 
 -- ---- logs
 
-touches_append : (es fs : List Event) → touches_among (es ++ fs) ≡ touches_among es ++ touches_among fs
+pub touches_append : (es fs : List Event) → touches_among (es ++ fs) ≡ touches_among es ++ touches_among fs
 touches_append [] fs = refl
 touches_append (begins ∷ es) fs = touches_append es fs
 touches_append (touches t ∷ es) fs = ap (λ (ts : List Touch). t ∷ ts) (touches_append es fs)
@@ -33,7 +33,7 @@ touches_append (pushes w ∷ es) fs = touches_append es fs
 touches_append (ends line ∷ es) fs = touches_append es fs
 touches_append (traps t ∷ es) fs = touches_append es fs
 
-abbrev IsQuiet : Log → Type 0
+abbrev pub IsQuiet : Log → Type 0
 IsQuiet l = (k : ℕ) → touches_in k l ≡ []
 
 both_touches : (s : Site) (cells : Cells) (l m : Log) (os ps : List Occurrence) → AreTouches s cells l os → AreTouches s cells m ps → AreTouches s cells (both l m) (os ++ ps)
@@ -54,7 +54,7 @@ before_quiet s cells l m os h q k =
     append_nil (t ∷ ts) = ap (λ (us : List Touch). t ∷ us) (append_nil ts)
 
 -- what a run that gives a value told of touches
-abbrev Touching : {X A : Type 0} → Site → Cells → Traced X A → List Occurrence → Type 0
+abbrev pub Touching : {X A : Type 0} → Site → Cells → Traced X A → List Occurrence → Type 0
 Touching {X} {A} s cells t os = (a : A) → t.out ≡ Ok a → AreTouches s cells t.log os
 
 joined_touching : {X A B : Type 0} (s : Site) (cells : Cells) (l : Log) (r : Result A X) (f : A → Traced X B) (os ps : List Occurrence)
@@ -123,7 +123,7 @@ mutual
       then_touching s cells (value_of a s cells) _ (reads (scope_at s) line path a) (reads_all (scope_at s) line path ss) (value_touches a s cells line path)
       (λ v h. then_quiet s cells (values_of ss s cells) _ (reads_all (scope_at s) line path ss) (values_touch ss s cells line path) (λ vs k. refl))
 
-condition_touches : (a : Condition) (s : Site) (cells : Cells) (line : ℕ) (path : List PathStep) → Touching s cells (holds a s cells) (condition_reads (scope_at s) line path a)
+pub condition_touches : (a : Condition) (s : Site) (cells : Cells) (line : ℕ) (path : List PathStep) → Touching s cells (holds a s cells) (condition_reads (scope_at s) line path a)
 condition_touches (relation op a b) s cells line path =
     then_touching s cells (value_of a s cells) _ (reads (scope_at s) line path a) (reads (scope_at s) line path b) (value_touches a s cells line path)
     (λ v h. then_quiet s cells (value_of b s cells) _ (reads (scope_at s) line path b) (value_touches b s cells line path) (λ w k. refl))
@@ -181,7 +181,7 @@ increment_touches s cells line path p rs kind =
     (λ ds h. then_touching s cells (values_of p.subscripts s cells) _ (reads_all (scope_at s) line path p.subscripts) (access (scope_at s) line path kind p) (values_touch p.subscripts s cells line path)
     (λ vs g. grow_touches s cells line path p kind ds (place_of s p.name (whole_numbers vs)) (found_place s cells p vs (place_of s p.name (whole_numbers vs)) g refl)))
 
-assigned_touches : (s : Site) (cells : Cells) (line : ℕ) (path : List PathStep) (atomic : Bool) (p : Designator) (a : Expression) (o : Option (List Signed))
+pub assigned_touches : (s : Site) (cells : Cells) (line : ℕ) (path : List PathStep) (atomic : Bool) (p : Designator) (a : Expression) (o : Option (List Signed))
     → Touching s cells (assignment_by s cells atomic p a o) (assignment_accesses (scope_at s) line path atomic p a o)
 assigned_touches s cells line path atomic p a None = plain_touches s cells line path p a
 assigned_touches s cells line path atomic p a (Some rs) = increment_touches s cells line path p rs (increment_kind atomic (s.pluses p.name))
@@ -190,7 +190,7 @@ line_by_touches : {A : Type 0} (s : Site) (cells : Cells) (line : ℕ) (l : Log)
 line_by_touches s cells line l (Ok a) os h b e = h a refl
 line_by_touches s cells line l (Err c) os h b e = cc
 
-line_touches : {A : Type 0} (s : Site) (cells : Cells) (line : ℕ) (t : Traced Cause A) (os : List Occurrence) → Touching s cells t os → Touching s cells (at_line line t) os
+pub line_touches : {A : Type 0} (s : Site) (cells : Cells) (line : ℕ) (t : Traced Cause A) (os : List Occurrence) → Touching s cells t os → Touching s cells (at_line line t) os
 line_touches s cells line t os h = line_by_touches s cells line t.log t.out os h
 
 -- ---- bounds
@@ -209,14 +209,14 @@ step_touches : (o : Option Expression) (s : Site) (cells : Cells) (line : ℕ) (
 step_touches None s cells line path = λ v e k. refl
 step_touches (Some a) s cells line path = value_touches a s cells line path
 
-turns_touch : (first last : Expression) (step : Option Expression) (s : Site) (cells : Cells) (line : ℕ) (path : List PathStep)
+pub turns_touch : (first last : Expression) (step : Option Expression) (s : Site) (cells : Cells) (line : ℕ) (path : List PathStep)
     → Touching s cells (turns_of first last step s cells) (reads (scope_at s) line path first ++ (reads (scope_at s) line path last ++ step_reads (scope_at s) line path step))
 turns_touch first last step s cells line path =
     then_touching s cells (value_of first s cells) _ (reads (scope_at s) line path first) _ (value_touches first s cells line path)
     (λ v h. then_touching s cells (value_of last s cells) _ (reads (scope_at s) line path last) (step_reads (scope_at s) line path step) (value_touches last s cells line path)
     (λ w g. then_quiet s cells (step_value step s cells) _ (step_reads (scope_at s) line path step) (step_touches step s cells line path) (λ u. by_turns_quiet (whole_number v) (whole_number w) (whole_number u))))
 
-pub touches_are_accesses : (s : Site) (cells : Cells) (line : ℕ) (path : List PathStep) → TouchesAreAccesses s cells line path
+pub touches_are_accesses : (s : Site) (cells : Cells) (line : ℕ) (path : List PathStep) → GroupTouches s cells line path
 touches_are_accesses s cells line path = record {
   of_assignment = λ atomic p a number d e. line_touches s cells line (assignment_by s cells atomic p a (increment_terms s.ring p a)) _ (assigned_touches s cells line path atomic p a (increment_terms s.ring p a)) d e;
   of_condition = λ c b e. condition_touches c s cells line path b e;

@@ -1,16 +1,22 @@
 -- Laws of fitting, and of touches.
-use Rattle.std.specs.Prelude.{◌≡◌, ℕ, true, List, length, Option, Some, slice_get, Ok}
-use Rattle.fl_ast.specs.Tree.{Expression, Condition, Statements}
+use Rattle.std.specs.Prelude.{◌≡◌, ℕ, ◌<◌, ◌^◌, Bool, true, ◌&&◌, ◌||◌, if◌then◌else◌, nat_eq, bytes_eq, List, All, length, Option, Some, slice_get, Ok}
+use Rattle.std.specs.List.{list_all, list_any}
+use Rattle.fl_ast.specs.declared.decl.Decl.{Decl}
+use Rattle.fl_ast.specs.Tree.{Expression, Condition, Statements, Subroutine}
 use Rattle.fl_types.specs.declared.access.PathStep.{PathStep}
-use Rattle.fl_types.specs.Kinds.{kind_of_expression, is_well_kinded, is_well_kinded_condition, is_index_expression, is_index_step}
+use Rattle.fl_types.specs.Kinds.{Names, kind_of_expression, is_well_kinded, is_well_kinded_condition, is_index_expression, is_index_step, are_well_kinded_statements, declared_names}
+use Rattle.store_core.specs.declared.layout.Shape.{Shape}
+use Rattle.store_core.specs.Places.{is_empty}
 use Rattle.meaning.specs.declared.value.Value.{Value}
 use Rattle.meaning.specs.declared.value.IterationCount.{IterationCount}
-use Rattle.meaning.specs.Sites.{Key, Cells, Site}
+use Rattle.meaning.specs.Sites.{Key, Cells, Site, opening_site}
 use Rattle.meaning.specs.Expressions.{content, value_of}
 use Rattle.meaning.specs.Statements.{turns_of, run_all}
+use Rattle.meaning.specs.Adjoints.{cells_along}
+use Rattle.meaning.specs.Programs.{entry_site, entry_cells}
 use Rattle.meaning.specs.Fitting.{names_at, HasKind, CellFits, Fits, IsWellKinded}
 use Rattle.meaning.specs.Defined.{IsDefined, IsDefinedCondition, IsFittingCount}
-use Rattle.meaning.specs.Touches.{TouchesAreAccesses}
+use Rattle.meaning.specs.Touches.{GroupTouches}
 
 -- as many cells as keys, each of which fits its key
 pub record FitsByPlace (site : Site) (cells : Cells) : Type 0 where
@@ -41,5 +47,38 @@ CountsFit =
 abbrev pub RunsFit : Type 0
 RunsFit = (body : Statements) (site : Site) (c d : Cells) → IsWellKinded site body → Fits site c → (run_all body site c).out ≡ Ok d → Fits site d
 
-abbrev pub GroupsTouch : Type 0
-GroupsTouch = (site : Site) (cells : Cells) (line : ℕ) (path : List PathStep) → TouchesAreAccesses site cells line path
+-- from words, a program starts in fitting cells, in every direction
+abbrev pub EntriesFit : Type 0
+EntriesFit =
+    (p : Subroutine) (shapes : List Shape) (pushed : List ℕ → Bool) (words direction : List ℕ) → All (λ w. w < 2 ^ 64) words →
+    Fits (entry_site p shapes pushed) (cells_along direction (entry_cells p shapes words))
+
+-- tangents don't matter
+abbrev pub DirectionsFit : Type 0
+DirectionsFit = (site : Site) (cells : Cells) (direction : List ℕ) → (Fits site cells → Fits site (cells_along direction cells)) × (Fits site (cells_along direction cells) → Fits site cells)
+
+-- a tree that is well kinded by some names is so by others that have their kinds and their ranks
+abbrev pub KindsGoByNames : Type 0
+KindsGoByNames =
+    (a b : Names) → ((x : List ℕ) → a.ring x ≡ b.ring x) → ((x : List ℕ) (n : ℕ) → a.has_rank x n ≡ true → b.has_rank x n ≡ true) →
+    (body : Statements) → are_well_kinded_statements a body ≡ true → are_well_kinded_statements b body ≡ true
+
+-- a shape of a declared name has as many axes as the declaration has dimensions
+abbrev pub has_rank_of : Shape → Decl → Bool
+has_rank_of s d = if bytes_eq s.name d.name then nat_eq (length s.axes) (length d.dims) else true
+
+-- a declared array has a shape
+abbrev pub has_array_shape : List Shape → Decl → Bool
+has_array_shape shapes d = is_empty d.dims || list_any (λ (s : Shape). bytes_eq d.name s.name) shapes
+
+abbrev pub are_declared_shapes : List Decl → List Shape → Bool
+are_declared_shapes decls shapes = list_all (λ (s : Shape). list_all (has_rank_of s) decls) shapes && list_all (has_array_shape shapes) decls
+
+-- a body that is well kinded by its declarations is well kinded at the entry of the program
+abbrev pub EntriesAreKinded : Type 0
+EntriesAreKinded =
+    (decls : List Decl) (shapes : List Shape) (pushed : List ℕ → Bool) → are_declared_shapes decls shapes ≡ true →
+    (body : Statements) → are_well_kinded_statements (declared_names decls) body ≡ true → IsWellKinded (opening_site decls shapes pushed) body
+
+abbrev pub TouchesAreAccesses : Type 0
+TouchesAreAccesses = (site : Site) (cells : Cells) (line : ℕ) (path : List PathStep) → GroupTouches site cells line path

@@ -12,14 +12,14 @@ abbrev pub writes_in : List ℕ → Statements → Bool
 writes_in x body = assigns_in x body || scopes_in x body
 
 -- what the cells hold for a name with subscripts, None where there is no place
-abbrev pub held : Site → Cells → List ℕ → List ℤ → Option Value
-held site cells x subscripts = content_at cells (place_of site x subscripts)
+abbrev pub content_by_name : Site → Cells → List ℕ → List ℤ → Option Value
+content_by_name site cells x subscripts = content_at cells (place_of site x subscripts)
 
 -- a name that a body doesn't write holds after a run what it held before
 abbrev pub NamesAreKept : Type 0
 NamesAreKept =
     (body : Statements) (site : Site) (c d : Cells) → (run_all body site c).out ≡ Ok d → (x : List ℕ) → writes_in x body ≡ false → (subscripts : List ℤ) →
-    held site d x subscripts ≡ held site c x subscripts
+    content_by_name site d x subscripts ≡ content_by_name site c x subscripts
 
 -- a run ends with as many cells as it began with
 abbrev pub CellsAreKept : Type 0

@@ -16,3 +16,4 @@ pub mod Touches
 pub mod Frame
 pub mod Reached
 pub mod FittingLaws
+pub mod Groups

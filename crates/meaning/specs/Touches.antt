@@ -45,7 +45,7 @@ abbrev pub AreTouches : Site → Cells → Log → List Occurrence → Type 0
 AreTouches site cells l os = (k : ℕ) → map Some (touches_in k l) ≡ map (touch_of site cells k) os
 
 -- what one path holds makes one group of accesses, evaluated in the same cells: an assignment or increment,
-pub record TouchesAreAccesses (site : Site) (cells : Cells) (line : ℕ) (path : List PathStep) : Type 0 where
+pub record GroupTouches (site : Site) (cells : Cells) (line : ℕ) (path : List PathStep) : Type 0 where
   pub of_assignment : (atomic : Bool) (p : Designator) (e : Expression) (number : ℕ) (d : Cells) → (run (assignment line atomic p e) site cells).out ≡ Ok d →
       AreTouches site cells (run (assignment line atomic p e) site cells).log (accesses (scope_at site) number path (assignment line atomic p e))
   -- a condition,

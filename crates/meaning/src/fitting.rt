@@ -1,4 +1,5 @@
-ghost use Rattle.meaning.specs.FittingLaws.{FittingIsByPlace, ValuesFit, ConditionsAreDefined, CountsFit, RunsFit, GroupsTouch};
+ghost use Rattle.meaning.specs.FittingLaws.{FittingIsByPlace, ValuesFit, ConditionsAreDefined, CountsFit, RunsFit, EntriesFit, DirectionsFit, KindsGoByNames, EntriesAreKinded, TouchesAreAccesses};
+ghost use Rattle.meaning.specs.Groups.{RunsTouch, IterationsTouch};
 ghost use Rattle.meaning.specs.Frame.{NamesAreKept, CellsAreKept};
 ghost use Rattle.meaning.specs.Reached.{RunsAreSound};
 
@@ -32,6 +33,26 @@ pub fn runs_are_sound()
     ensures { RunsAreSound }
 {}
 
+/// Every program starts in fitting cells.
+pub fn entries_fit()
+    ensures { EntriesFit }
+{}
+
+/// Whether cells fit doesn't depend on their tangents.
+pub fn directions_fit()
+    ensures { DirectionsFit }
+{}
+
+/// Whether a tree is well kinded depends on the kinds of its names and on how many subscripts they have.
+pub fn kinds_go_by_names()
+    ensures { KindsGoByNames }
+{}
+
+/// A body that is well kinded by its declarations is so at the entry of the program.
+pub fn entries_are_kinded()
+    ensures { EntriesAreKinded }
+{}
+
 /// A run ends with as many cells as it began with.
 pub fn cells_are_kept()
     ensures { CellsAreKept }
@@ -43,6 +64,16 @@ pub fn names_are_kept()
 {}
 
 /// What an assignment, a condition or the bounds of a loop touch are its accesses, in order.
-pub fn groups_touch()
-    ensures { GroupsTouch }
+pub fn touches_are_accesses()
+    ensures { TouchesAreAccesses }
+{}
+
+/// A run without parallel loops touches what the groups that it evaluates access, in order, and each stands among its accesses.
+pub fn runs_touch()
+    ensures { RunsTouch }
+{}
+
+/// An iteration of a parallel loop touches what the groups that it evaluates access, in order, and each stands among the loop's.
+pub fn iterations_touch()
+    ensures { IterationsTouch }
 {}

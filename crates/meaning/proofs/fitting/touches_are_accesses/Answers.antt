@@ -1,5 +1,5 @@
 use Rattle.meaning.proofs.Touching.{touches_are_accesses}
-use Rattle.meaning.proofs.fitting.groups_touch.Goals as goal
+use Rattle.meaning.proofs.fitting.touches_are_accesses.Goals as goal
 
 pub returns : goal.returns
 returns c = touches_are_accesses
