@@ -17,7 +17,7 @@ use Rattle.parsing.specs.declared.symbol.Symbol.TheVariants as s
 use Rattle.parsing.specs.declared.cursor.Word.{Word}
 use Rattle.parsing.specs.declared.cursor.Number.{Number}
 use Rattle.parsing.specs.Symbol.{look_up, words as word_table, kind_numbers, marks, dot_words, symbol_by}
-use Rattle.parsing.specs.Terminal.{on, names, name, number_by, number, words, word, word_of}
+use Rattle.parsing.specs.Terminal.{on, names, name, number_by, number, at_most, small_number, words, word, word_of}
 use Rattle.parsing.specs.Reading.{Lexemes, sees}
 use Rattle.parsing.specs.Grammar.{Grammar, gives, one, times, many, ◌>>=◌ as ◌⨟◌}
 use Rattle.parsing.proofs.Outcomes.{differ}
@@ -184,20 +184,27 @@ holds_word m x us s n =
     let there = (subst AllSpelled n.2 s).0 in
     ap (λ (w : Word). is_name w.name) (sym both.1) ∙ spelled_word n.0.kind n.0.bytes there both.0
 
-small_number : (k : TokenKind) (bs : List ℕ) (x : Number) → is_spelled_as k bs ≡ true → number_by k ≡ Some x → nat_le x.value 9223372036854775807 ≡ true
-small_number word_kind bs x s e = cc
-small_number (number_kind v f) bs x s e = ap (λ (n : Number). nat_le n.value 9223372036854775807) (sym (same v f x e)) ∙ and_second _ _ s
+number_value : (k : TokenKind) (bs : List ℕ) (x : Number) → is_spelled_as k bs ≡ true → number_by k ≡ Some x → nat_le x.value 9223372036854775807 ≡ true
+number_value word_kind bs x s e = cc
+number_value (number_kind v f) bs x s e = ap (λ (n : Number). nat_le n.value 9223372036854775807) (sym (same v f x e)) ∙ and_second _ _ s
   where
     same : (v : ℕ) (f : Option ℕ) (x : Number) → number_by (number_kind v f) ≡ Some x → record { value = v; suffix = f } ≡ x
     same v f x e = cc
-small_number Mark bs x s e = cc
-small_number Dots bs x s e = cc
-small_number Sentinel bs x s e = cc
-small_number LineEnd bs x s e = cc
+number_value Mark bs x s e = cc
+number_value Dots bs x s e = cc
+number_value Sentinel bs x s e = cc
+number_value LineEnd bs x s e = cc
 
 pub holds_number : (m : ℕ) → Holds m (one number) (λ x k. nat_le x.value 9223372036854775807 ≡ true)
-holds_number m x us s n = small_number n.0.kind n.0.bytes x ((subst AllSpelled n.2 s).0) n.1
+holds_number m x us s n = number_value n.0.kind n.0.bytes x ((subst AllSpelled n.2 s).0) n.1
 
 -- both of two facts
 pub holds_both : {A : Type 0} (m : ℕ) (N : Grammar A) (P Q : A → ℕ → Type 0) → Holds m N P → Holds m N Q → Holds m N (λ x k. P x k × Q x k)
 holds_both m N P Q p q x us s n = (p x us s n, q x us s n)
+
+small_of : (most : ℕ) (o : Option Number) (x : Number) → at_most most o ≡ Some x → nat_le x.value most ≡ true
+small_of most None x e = cc
+small_of most (Some n) x e = let both = cond_is (nat_le n.value most) n x e in ap (λ (i : Number). nat_le i.value most) (sym both.1) ∙ both.0
+
+pub holds_small : (m most : ℕ) → Holds m (one (small_number most)) (λ x k. nat_le x.value most ≡ true)
+holds_small m most x us s n = small_of most (number n.0) x n.1

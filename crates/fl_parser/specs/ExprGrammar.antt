@@ -1,12 +1,24 @@
 -- The grammar of expressions.
-use Rattle.std.specs.Prelude.{ℕ, zero, suc, Bool, true, false}
+use Rattle.std.specs.Prelude.{ℕ, zero, suc, Bool, true, false, ◌&&◌}
 use Rattle.parsing.specs.declared.symbol.Symbol.TheVariants as s
 use Rattle.parsing.specs.Limit.{Limit, allows, less}
 use Rattle.parsing.specs.Terminal.{marked, name, number}
-use Rattle.parsing.specs.Grammar.{Grammar, ◌>>=◌, gives, one, ◌or◌, where_, left_grouped}
+use Rattle.parsing.specs.Grammar.{Grammar, ◌>>=◌, gives, one, ◌or◌, where_, many, left_grouped}
+use Rattle.parsing.specs.declared.cursor.Word.{Word}
 use Rattle.fl_parser.specs.declared.tree.Measured.{Measured}
-use Rattle.fl_parser.specs.Terminals.{sum_op, product_op}
-use Rattle.fl_parser.specs.Trees.{literal as literal_of, scalar as scalar_of, negation, binary, may_stand_left}
+use Rattle.fl_parser.specs.declared.tree.Listed.{Listed}
+use Rattle.fl_parser.specs.Terminals.{sum_op, product_op, pairing, single, exponent}
+use Rattle.fl_parser.specs.Trees.{literal as literal_of, scalar as scalar_of, negation, binary, power, no_exprs, one_more, element, call_of, may_stand_left}
+
+-- "**" number
+unfoldable pub power_of : Measured → Grammar Measured
+power_of e = do
+  sign ← one (marked s.Power)
+  n ← one exponent
+  gives (power e n)
+
+unfoldable pub raised : Limit → Measured → Grammar Measured
+raised d e = where_ (may_stand_left d e) (power_of e) or gives e
 
 -- The flag says whether one more bracket may open, and inner is an expression within it.
 -- The limit is on the levels that a tree may have beneath its root.
@@ -19,22 +31,80 @@ module _ (may_open : Bool) (inner : Limit → Grammar Measured) where
     close ← one (marked s.Close)
     gives e
 
-  unfoldable pub scalar : Grammar Measured
-  scalar = do
-    x ← one name
-    gives (scalar_of x)
-
   unfoldable pub literal : Grammar Measured
   literal = do
     n ← one number
     gives (literal_of n)
 
-  -- name | number | "(" expr ")"
-  unfoldable pub primary : Limit → Grammar Measured
-  primary d = where_ may_open (bracketed d) or (scalar or literal)
+  -- "," expr
+  unfoldable pub another_expr : Limit → Listed → Grammar Listed
+  another_expr d found = do
+    comma ← one (marked s.Comma)
+    e ← inner d
+    gives (one_more found e)
 
+  unfoldable pub more_exprs : Limit → Listed → Grammar Listed
+  more_exprs d = many (λ found. where_ true (another_expr d found))
+
+  -- expr {"," expr}
+  unfoldable pub exprs : Limit → Grammar Listed
+  exprs d = do
+    e ← inner d
+    more_exprs d (one_more no_exprs e)
+
+  -- "(" expr {"," expr} ")"
+  unfoldable pub subscripts : Limit → Grammar Listed
+  subscripts d = do
+    open_ ← one (marked s.Open)
+    found ← exprs d
+    close ← one (marked s.Close)
+    gives found
+
+  -- whether subscripts or arguments may follow
+  abbrev pub may_hold : Limit → Bool
+  may_hold d = may_open && allows d 1
+
+  unfoldable pub indexed : Limit → Word → Grammar Measured
+  indexed d x = do
+    found ← subscripts (less d)
+    gives (element x found)
+
+  unfoldable pub after_name : Limit → Word → Grammar Measured
+  after_name d x = where_ (may_hold d) (indexed d x) or gives (scalar_of x)
+
+  -- name [ "(" expr {"," expr} ")" ]
+  unfoldable pub place : Limit → Grammar Measured
+  place d = do
+    x ← one name
+    after_name d x
+
+  -- ("max"|"min"|"mod") "(" expr "," expr ")"
+  unfoldable pub call_of_two : Limit → Grammar Measured
+  call_of_two d = do
+    f ← one pairing
+    open_ ← one (marked s.Open)
+    a ← inner (less d)
+    comma ← one (marked s.Comma)
+    b ← inner (less d)
+    close ← one (marked s.Close)
+    gives (call_of f (one_more (one_more no_exprs a) b))
+
+  -- "abs" "(" expr ")"
+  unfoldable pub call_of_one : Limit → Grammar Measured
+  call_of_one d = do
+    f ← one single
+    open_ ← one (marked s.Open)
+    a ← inner (less d)
+    close ← one (marked s.Close)
+    gives (call_of f (one_more no_exprs a))
+
+  -- "(" expr ")" | fun "(" expr {"," expr} ")" | place | number
+  unfoldable pub primary : Limit → Grammar Measured
+  primary d = where_ may_open (bracketed d) or (where_ (may_hold d) (call_of_two d) or (where_ (may_hold d) (call_of_one d) or (place d or literal)))
+
+  -- primary [ "**" number ]
   unfoldable pub factor : Limit → Grammar Measured
-  factor d = primary d
+  factor d = primary d >>= raised d
 
   -- { ("*"|"/") factor }
   unfoldable pub factors_from : Limit → Measured → Grammar Measured

@@ -1,13 +1,24 @@
 -- How expressions are read.
-use Rattle.std.specs.Prelude.{ℕ, zero, suc, Bool, true, false}
+use Rattle.std.specs.Prelude.{ℕ, zero, suc, Bool, true, false, ◌&&◌}
 use Rattle.parsing.specs.declared.symbol.Symbol.TheVariants as s
-use Rattle.parsing.specs.declared.fault.Cause.TheVariants.{Deep}
+use Rattle.parsing.specs.declared.fault.Cause.TheVariants.{Expected, Deep}
 use Rattle.parsing.specs.Limit.{Limit, allows, less}
 use Rattle.parsing.specs.Terminal.{is, on, marked, names, name, number}
-use Rattle.parsing.specs.Reading.{Parser, ◌>>=◌, pure, token, refuse, choose, within, left_grouped}
+use Rattle.parsing.specs.Reading.{Parser, ◌>>=◌, pure, token, refuse, choose, within, loop, left_grouped}
+use Rattle.parsing.specs.declared.cursor.Word.{Word}
 use Rattle.fl_parser.specs.declared.tree.Measured.{Measured}
-use Rattle.fl_parser.specs.Terminals.{sum_op, product_op, is_sum_op, is_product_op}
-use Rattle.fl_parser.specs.Trees.{literal as literal_of, scalar as scalar_of, negation, binary, may_stand_left}
+use Rattle.fl_parser.specs.declared.tree.Listed.{Listed}
+use Rattle.fl_parser.specs.Terminals.{sum_op, product_op, is_sum_op, is_product_op, pairing, is_pairing, single, is_single, exponent}
+use Rattle.fl_parser.specs.Trees.{literal as literal_of, scalar as scalar_of, negation, binary, power, no_exprs, one_more, element, call_of, may_stand_left}
+
+unfoldable pub power_of : Measured → Parser Measured
+power_of e = do
+  sign ← token (marked s.Power)
+  n ← token exponent
+  pure (power e n)
+
+unfoldable pub raised : Limit → Measured → Parser Measured
+raised d e = choose (is s.Power) (within (may_stand_left d e) Deep (power_of e)) (pure e)
 
 -- The flag says whether one more bracket may open, and inner reads an expression within it.
 -- The limit is on the levels that a tree may have beneath its root.
@@ -19,21 +30,75 @@ module _ (may_open : Bool) (inner : Limit → Parser Measured) where
     close ← token (marked s.Close)
     pure e
 
-  unfoldable pub scalar : Parser Measured
-  scalar = do
-    x ← token name
-    pure (scalar_of x)
-
   unfoldable pub literal : Parser Measured
   literal = do
     n ← token number
     pure (literal_of n)
 
+  unfoldable pub another_expr : Limit → Listed → Parser Listed
+  another_expr d found = do
+    comma ← token (marked s.Comma)
+    e ← inner d
+    pure (one_more found e)
+
+  unfoldable pub more_exprs : Limit → Listed → Parser Listed
+  more_exprs d = loop (is s.Comma) (λ found. true) Expected (another_expr d)
+
+  unfoldable pub exprs : Limit → Parser Listed
+  exprs d = do
+    e ← inner d
+    more_exprs d (one_more no_exprs e)
+
+  unfoldable pub subscripts : Limit → Parser Listed
+  subscripts d = do
+    open_ ← token (marked s.Open)
+    found ← exprs d
+    close ← token (marked s.Close)
+    pure found
+
+  -- whether subscripts or arguments may follow
+  abbrev pub may_hold : Limit → Bool
+  may_hold d = may_open && allows d 1
+
+  unfoldable pub indexed : Limit → Word → Parser Measured
+  indexed d x = do
+    found ← subscripts (less d)
+    pure (element x found)
+
+  unfoldable pub after_name : Limit → Word → Parser Measured
+  after_name d x = choose (is s.Open) (within (may_hold d) Deep (indexed d x)) (pure (scalar_of x))
+
+  unfoldable pub place : Limit → Parser Measured
+  place d = do
+    x ← token name
+    after_name d x
+
+  unfoldable pub call_of_two : Limit → Parser Measured
+  call_of_two d = do
+    f ← token pairing
+    open_ ← token (marked s.Open)
+    a ← inner (less d)
+    comma ← token (marked s.Comma)
+    b ← inner (less d)
+    close ← token (marked s.Close)
+    pure (call_of f (one_more (one_more no_exprs a) b))
+
+  unfoldable pub call_of_one : Limit → Parser Measured
+  call_of_one d = do
+    f ← token single
+    open_ ← token (marked s.Open)
+    a ← inner (less d)
+    close ← token (marked s.Close)
+    pure (call_of f (one_more no_exprs a))
+
+  unfoldable pub named : Limit → Parser Measured
+  named d = choose is_pairing (within (may_hold d) Deep (call_of_two d)) (choose is_single (within (may_hold d) Deep (call_of_one d)) (choose (on names) (place d) literal))
+
   unfoldable pub primary : Limit → Parser Measured
-  primary d = choose (is s.Open) (within may_open Deep (bracketed d)) (choose (on names) scalar literal)
+  primary d = choose (is s.Open) (within may_open Deep (bracketed d)) (named d)
 
   unfoldable pub factor : Limit → Parser Measured
-  factor d = primary d
+  factor d = primary d >>= raised d
 
   unfoldable pub factors_from : Limit → Measured → Parser Measured
   factors_from = left_grouped is_product_op product_op binary may_stand_left Deep factor

@@ -3,13 +3,12 @@
 ghost use Rattle.std.specs.Prelude.{◌≡◌, ◌-◌, ◌+◌, ◌<◌, ◌≤◌, ◌^◌, nat_lt, IfOk, Some};
 ghost use Rattle.parsing.specs.Code.{Reads};
 ghost use Rattle.parsing.specs.Reading as reading;
-ghost use Rattle.parsing.specs.Terminal as terminal;
 ghost use Rattle.fl_parser.specs.ExprReading as spec;
 ghost use Rattle.fl_parser.specs.Terminals as terminals;
 ghost use Rattle.fl_parser.specs.Trees as trees;
 ghost use Rattle.fl_parser.specs.Nests.{Nests};
 
-use crate::tree::{Measured, binary, literal, negation, scalar};
+use crate::tree::{Measured, binary, negation};
 use fl_ast::BinOp;
 use parsing::{Cause, Cursor, Failure, Symbol};
 use std::alloc::Global;
@@ -58,15 +57,6 @@ fn product_op(tokens: &mut Cursor<'_>) -> Result<BinOp, Failure>
     }
 }
 
-fn sees_name(tokens: &Cursor<'_>) -> bool
-    ensures { result ≡ reading.sees (terminal.on terminal.names) tokens.now }
-{
-    match tokens.ahead() {
-        Some(ahead) => ahead.names(),
-        None => false,
-    }
-}
-
 #[derive(Clone, Copy)]
 pub struct Rules<F> {
     pub alloc: Global,
@@ -76,77 +66,6 @@ pub struct Rules<F> {
 }
 
 impl<F: Fn(Global, &mut Cursor<'_>, usize, usize) -> Result<Measured, Failure>> Rules<F> {
-    fn inner(&self, tokens: &mut Cursor<'_>, d: usize) -> Result<Measured, Failure>
-        requires nests { Nests self.now.brackets (F.pre self.now.expr) (F.post self.now.expr) }
-        requires few { d < 2 ^ 32 }
-        requires room { 0 < self.now.brackets }
-        ensures reads { Reads (spec.below self.now.brackets (Some d) tokens.old) result tokens.new }
-        ensures depth { IfOk result (λ x. (0 < x.depth) × (x.depth ≤ d + 1)) }
-    {
-        (self.expr)(self.alloc, tokens, self.brackets - 1, d)
-    }
-
-    #[tactic(auto, unfolding(crate::specs::ExprReading::bracketed))]
-    fn bracketed(&self, tokens: &mut Cursor<'_>, d: usize) -> Result<Measured, Failure>
-        requires nests { Nests self.now.brackets (F.pre self.now.expr) (F.post self.now.expr) }
-        requires few { d < 2 ^ 32 }
-        requires room { 0 < self.now.brackets }
-        ensures reads { Reads (spec.bracketed (nat_lt 0 self.now.brackets) (spec.below self.now.brackets) (Some d) tokens.old) result tokens.new }
-        ensures depth { IfOk result (λ x. (0 < x.depth) × (x.depth ≤ d + 1)) }
-    {
-        let _open = tokens.mark(Symbol::Open)?;
-        let e = self.inner(tokens, d)?;
-        let _close = tokens.mark(Symbol::Close)?;
-        Ok(e)
-    }
-
-    #[tactic(auto, unfolding(crate::specs::ExprReading::scalar))]
-    fn scalar(&self, tokens: &mut Cursor<'_>) -> Result<Measured, Failure>
-        ensures reads { Reads (spec.scalar (nat_lt 0 self.now.brackets) (spec.below self.now.brackets) tokens.old) result tokens.new }
-        ensures depth { IfOk result (λ x. x.depth ≡ 1) }
-    {
-        let word = tokens.name(self.alloc)?;
-        Ok(scalar(self.alloc, word)?)
-    }
-
-    #[tactic(auto, unfolding(crate::specs::ExprReading::literal))]
-    fn literal(&self, tokens: &mut Cursor<'_>) -> Result<Measured, Failure>
-        ensures reads { Reads (spec.literal (nat_lt 0 self.now.brackets) (spec.below self.now.brackets) tokens.old) result tokens.new }
-        ensures depth { IfOk result (λ x. x.depth ≡ 1) }
-    {
-        let number = tokens.number()?;
-        Ok(literal(self.alloc, number)?)
-    }
-
-    #[tactic(auto, unfolding(crate::specs::ExprReading::primary))]
-    fn primary(&self, tokens: &mut Cursor<'_>, d: usize) -> Result<Measured, Failure>
-        requires nests { Nests self.now.brackets (F.pre self.now.expr) (F.post self.now.expr) }
-        requires few { d < 2 ^ 32 }
-        ensures reads { Reads (spec.primary (nat_lt 0 self.now.brackets) (spec.below self.now.brackets) (Some d) tokens.old) result tokens.new }
-        ensures depth { IfOk result (λ x. (0 < x.depth) × (x.depth ≤ d + 1)) }
-    {
-        if tokens.sees(Symbol::Open) {
-            if self.brackets == 0 {
-                return Err(tokens.refuse(Cause::Deep));
-            }
-            return self.bracketed(tokens, d);
-        }
-        if sees_name(tokens) {
-            return self.scalar(tokens);
-        }
-        self.literal(tokens)
-    }
-
-    #[tactic(auto, unfolding(crate::specs::ExprReading::factor))]
-    fn factor(&self, tokens: &mut Cursor<'_>, d: usize) -> Result<Measured, Failure>
-        requires nests { Nests self.now.brackets (F.pre self.now.expr) (F.post self.now.expr) }
-        requires few { d < 2 ^ 32 }
-        ensures reads { Reads (spec.factor (nat_lt 0 self.now.brackets) (spec.below self.now.brackets) (Some d) tokens.old) result tokens.new }
-        ensures depth { IfOk result (λ x. (0 < x.depth) × (x.depth ≤ d + 1)) }
-    {
-        self.primary(tokens, d)
-    }
-
     fn times_one(&self, tokens: &mut Cursor<'_>, d: usize, l: Measured) -> Result<Measured, Failure>
         requires nests { Nests self.now.brackets (F.pre self.now.expr) (F.post self.now.expr) }
         requires few { d < 2 ^ 32 }

@@ -5,6 +5,7 @@ mod decl;
 mod error;
 mod expr;
 mod limit;
+mod operand;
 mod stmt;
 mod text;
 mod tree;

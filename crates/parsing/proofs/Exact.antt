@@ -1,5 +1,5 @@
 -- What it is for a reader to be exact for a grammar, and that each way of putting readers together keeps it.
-use Rattle.std.proofs.Common.{◌≡◌, ℕ, Bool, true, false, [], ◌∷◌, ◌++◌, length, Option, Some, None, Ok, Err, inl, inr, refl, sym, ap, ◌∙◌, subst, append_assoc, arith}
+use Rattle.std.proofs.Common.{◌≡◌, ℕ, Bool, true, false, ◌&&◌, [], ◌∷◌, ◌++◌, length, Option, Some, None, Ok, Err, inl, inr, refl, sym, ap, ◌∙◌, subst, append_assoc, arith}
 use Rattle.tokens.specs.Lexeme.{Lexeme}
 use Rattle.parsing.specs.declared.fault.Cause.{Cause}
 use Rattle.parsing.specs.declared.fault.Cause.TheVariants.{Expected}
@@ -218,6 +218,32 @@ room_of {l} {cause} {limit} {wide} F n = record {
     | inr f ↦ sym (ap (λ v. allows v n) (F.stays f)) ∙ h ∙ sym f
   ];
 }
+
+lifted : (a b a2 b2 f : Bool) → (a ≡ true → a2 ≡ true) → (b ≡ true → b2 ≡ true) → (a ≡ false → a2 ≡ f) → (b ≡ false → b2 ≡ f) → (a && b) ≡ false → (a2 && b2) ≡ f
+lifted true true a2 b2 f g h k l e = cc
+lifted true false a2 b2 f g h k l e = ap (λ v. v && b2) (g refl) ∙ l refl
+lifted false true a2 b2 f g h k l e = ap (λ v. a2 && v) (h refl) ∙ with_true a2 ∙ k refl
+  where
+    with_true : (a : Bool) → (a && true) ≡ a
+    with_true true = refl
+    with_true false = refl
+lifted false false a2 b2 f g h k l e = ap (λ v. v && b2) (k refl) ∙ ap (λ v. f && v) (l refl) ∙ with_self f
+  where
+    with_self : (a : Bool) → (a && a) ≡ a
+    with_self true = refl
+    with_self false = refl
+
+-- two limits at once
+pub both_rooms : {l : Freed} {cause : Cause} {a a2 b b2 : Bool} → Room l cause a a2 → Room l cause b b2 → Room l cause (a && b) (a2 && b2)
+both_rooms {l} {cause} {a} {a2} {b} {b2} R S = record {
+  grows = λ h. grown a b a2 b2 R.grows S.grows h;
+  lifts = λ h. lifted a b a2 b2 (frees l cause) R.grows S.grows R.lifts S.lifts h;
+}
+  where
+    grown : (a b a2 b2 : Bool) → (a ≡ true → a2 ≡ true) → (b ≡ true → b2 ≡ true) → (a && b) ≡ true → (a2 && b2) ≡ true
+    grown true true a2 b2 g h e = ap (λ v. v && b2) (g refl) ∙ h refl
+    grown true false a2 b2 g h e = cc
+    grown false b a2 b2 g h e = cc
 
 pub frees_less : {l : Freed} {cause : Cause} {limit wide : Limit} → Frees l cause limit wide → Frees l cause (fewer limit) (fewer wide)
 frees_less F = record { stays = λ h. ap fewer (F.stays h); goes = λ h. ap fewer (F.goes h) }

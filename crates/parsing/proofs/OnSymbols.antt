@@ -1,10 +1,11 @@
 -- What the tests on tokens say of each other: tests on symbols are decided by trying each.
-use Rattle.std.proofs.Common.{◌≡◌, ℕ, zero, suc, Bool, true, false, cond, not, ◌&&◌, ◌||◌, List, [], ◌∷◌, ◌++◌, Option, Some, None, refl, sym, ap, ◌∙◌, eqb-true, eq-eqb}
+use Rattle.std.proofs.Common.{◌≡◌, ℕ, zero, suc, Bool, true, false, cond, not, ◌&&◌, ◌||◌, List, [], ◌∷◌, ◌++◌, Option, Some, None, refl, sym, ap, ◌∙◌, eqb-true, eq-eqb, arith, nat_le}
 use Rattle.tokens.specs.Lexeme.{Lexeme}
 use Rattle.parsing.specs.declared.symbol.Symbol.{Symbol}
 use Rattle.parsing.specs.declared.symbol.Symbol.TheVariants as s
 use Rattle.parsing.specs.Freed.{Freed}
 use Rattle.std.specs.Prelude.{bytes_eq}
+use Rattle.std.proofs.lemmas.Bool.Decides.{nat_tests}
 use Rattle.std.specs.Str.{str_to_ascii_lowercase}
 use Rattle.tokens.specs.declared.TokenKind.{TokenKind}
 use Rattle.tokens.specs.declared.TokenKind.TheVariants as kind
@@ -12,7 +13,7 @@ use Rattle.parsing.specs.declared.cursor.Number.{Number}
 use Rattle.parsing.specs.Symbol.{Entry, look_up, kind_numbers, words as word_table, symbol_of, symbol_by}
 use Rattle.parsing.proofs.Table.{same_bytes}
 use Rattle.parsing.specs.Example.{example}
-use Rattle.parsing.specs.Terminal.{code, same, on, is, marked, by, some, reads, names, word_of, name, words, word, number_by, numbers, number, same_word}
+use Rattle.parsing.specs.Terminal.{code, same, on, is, marked, by, some, reads, names, word_of, name, words, word, number_by, numbers, number, at_most, small_number, same_word}
 use Rattle.parsing.specs.Reading.{Lexemes, Parser, ◌>>=◌ as ◌▷◌, sees, token}
 use Rattle.parsing.specs.Grammar.{Grammar, one, ◌>>=◌ as ◌⨟◌}
 use Rattle.parsing.proofs.Outcomes.{never, differ, Bites, Shrinks, bites_seq}
@@ -280,6 +281,14 @@ word_exact = token_exact word (word_of (example s.Name)) (example s.Name) (ap (�
 pub number_exact : {l : Freed} → Exact l (one number) never (token number) (token number)
 number_exact = token_exact number (record { value = 0; suffix = None }) (example s.Number) refl
 
+least : (most : ℕ) → nat_le 0 most ≡ true
+least most = grind (arith, nat_tests)
+
+pub small_number_exact : {l : Freed} (most : ℕ) → Exact l (one (small_number most)) never (token (small_number most)) (token (small_number most))
+small_number_exact most =
+    let nought : Number = record { value = 0; suffix = None } in
+    token_exact (small_number most) nought (example s.Number) (ap (λ b. cond b (Some nought) None) (least most))
+
 -- a token that reads by its symbol
 pub by_exact : {A : Type 0} {l : Freed} (read : Symbol → Option A) (a : Symbol) (x : A) → read a ≡ Some x → Exact l (one (by read)) never (token (by read)) (token (by read))
 by_exact read a x e = token_exact (by read) x (example a) (ap read (example_is a) ∙ e)
@@ -328,6 +337,13 @@ number_symbol kind.LineEnd bytes x e = cc
 
 pub begins_number : Begins (one number) (on numbers)
 begins_number = begins_one number (on numbers) (λ t x h. number_symbol t.kind t.bytes x h)
+
+some_small : (most : ℕ) (o : Option Number) (x : Number) → at_most most o ≡ Some x → (n : Number) × (o ≡ Some n)
+some_small most None x e = cc
+some_small most (Some n) x e = (n, refl)
+
+pub begins_small_number : (most : ℕ) → Begins (one (small_number most)) (on numbers)
+begins_small_number most = begins_one (small_number most) (on numbers) (λ t x h. let n = some_small most (number t) x h in number_symbol t.kind t.bytes n.0 n.1)
 
 pub begins_word : Begins (one word) (on words)
 begins_word = begins_one word (on words) (λ t x h. cond_some (on words t) (word_of t) x h)

@@ -1,5 +1,5 @@
 -- More ways of putting exact readers together.
-use Rattle.std.proofs.Common.{◌≡◌, ℕ, zero, suc, ◌+◌, ◌<◌, ◌≤◌, Bool, true, false, [], ◌∷◌, ◌++◌, length, Ok, Err, ◌⊎◌, inl, inr, refl, sym, ap, ◌∙◌, append_assoc, length-append, arith}
+use Rattle.std.proofs.Common.{◌≡◌, ℕ, zero, suc, ◌+◌, ◌<◌, ◌≤◌, Bool, true, false, cond, [], ◌∷◌, ◌++◌, length, Ok, Err, ◌⊎◌, inl, inr, refl, sym, ap, ◌∙◌, append_assoc, length-append, arith}
 use Rattle.std.proofs.lemmas.List.{append_cancel_right}
 use Rattle.tokens.specs.Lexeme.{Lexeme}
 use Rattle.parsing.specs.declared.fault.Cause.{Cause}
@@ -8,7 +8,7 @@ use Rattle.parsing.specs.declared.fault.Fault.{Fault}
 use Rattle.parsing.specs.Freed.{Freed}
 use Rattle.parsing.specs.Reading.{◌>>=◌ as ◌▷◌, Lexemes, Outcome, Parser, and_then, sees, fault, choose, within, turns, loop, pure}
 use Rattle.parsing.specs.Grammar.{◌>>=◌ as ◌⨟◌, Grammar, gives, ◌or◌, where_, times, many}
-use Rattle.parsing.proofs.Outcomes.{first, append_split, never, sees-never, which, differ, err_is, choose_true, choose_false, Bites, bites_seq}
+use Rattle.parsing.proofs.Outcomes.{first, append_split, never, sees-never, which, differ, err_is, choose_true, choose_false, Within, Shrinks, shrinks_pure, shrinks_seq, Bites, bites_seq}
 use Rattle.parsing.proofs.Exact.{Exact, Room, always_room, Begins, Meets, Steady, Stuck, pure_exact, seq, either_within}
 
 -- ---- fewer tokens that may follow, and other words for the same grammar
@@ -222,6 +222,18 @@ module _ {A : Type 0} (l : Freed) (test before after : Lexeme → Bool) (room ro
           let sizes : length (done ++ r) ≡ length done + length r = length-append done r in
           enough (length (done ++ r)) k left (done ++ r) (omega arith) (omega arith)
           ∙ ap (λ v. turns test room cause read k left (v ++ r)) (sym split.0) ∙ m.4 r (h ∙ ap first (sym split.1))
+
+shrinks_turns : {A : Type 0} (test : Lexeme → Bool) (room : A → Bool) (cause : Cause) (step : A → Parser A) → ((x : A) → Shrinks (step x)) → (n : ℕ) (left : A) → Shrinks (turns test room cause step n left)
+shrinks_turns test room cause step steps zero left ts = shrinks_pure left ts
+shrinks_turns {A} test room cause step steps (suc n) left ts = by (shrinks_seq (step left) (turns test room cause step n) (steps left) (shrinks_turns test room cause step steps n)) (sees test ts) (room left)
+  where
+    by : Shrinks (step left ▷ turns test room cause step n) → (b r : Bool) → Within (cond b (within r cause (step left ▷ turns test room cause step n) ts) (pure left ts)) (length ts)
+    by more true true = more ts
+    by more true false = omega arith
+    by more false r = omega arith
+
+pub shrinks_loop : {A : Type 0} (test : Lexeme → Bool) (room : A → Bool) (cause : Cause) (step : A → Parser A) → ((x : A) → Shrinks (step x)) → (left : A) → Shrinks (loop test room cause step left)
+shrinks_loop test room cause step steps left ts = shrinks_turns test room cause step steps (length ts) left ts
 
 -- ---- what may be empty
 

@@ -1,5 +1,5 @@
 -- What readers ask of a token.
-use Rattle.std.specs.Prelude.{ℕ, Bool, true, false, ◌&&◌, ◌==◌, bytes_eq, List, Option, Some, None, if◌then◌else◌}
+use Rattle.std.specs.Prelude.{ℕ, Bool, true, false, ◌&&◌, ◌==◌, nat_le, bytes_eq, List, Option, Some, None, if◌then◌else◌}
 use Rattle.std.specs.Str.{str_to_ascii_lowercase}
 use Rattle.tokens.specs.declared.TokenKind.{TokenKind}
 use Rattle.tokens.specs.declared.TokenKind.TheVariants as kind
@@ -198,3 +198,12 @@ number_by _ = None
 
 abbrev pub number : Lexeme → Option Number
 number t = number_by t.kind
+
+-- where it is at most so much
+abbrev pub at_most : ℕ → Option Number → Option Number
+at_most most None = None
+at_most most (Some n) = if nat_le n.value most then Some n else None
+
+-- a number that is at most so much
+abbrev pub small_number : ℕ → Lexeme → Option Number
+small_number most t = at_most most (number t)
