@@ -19,7 +19,7 @@ use thiserror::Error;
 /// Why an evaluation gave no value.
 #[derive(Debug, Drop, Error)]
 pub enum EvalStop {
-    #[error("an operation has no result")]
+    #[error("{0}")]
     Trap(Cause),
     #[error("not enough memory")]
     Memory,

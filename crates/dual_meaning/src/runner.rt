@@ -25,7 +25,7 @@ use thiserror::Error;
 /// Why a run ended early.
 #[derive(Debug, Drop, Error)]
 pub enum RunStop {
-    #[error("line {}: an operation has no result", .0.line)]
+    #[error("line {}: {}", .0.line, .0.cause)]
     Trap(TrapAt),
     #[error("not enough memory")]
     Memory,

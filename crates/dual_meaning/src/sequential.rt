@@ -14,7 +14,7 @@ use thiserror::Error;
 /// Why statements have not run to their end.
 #[derive(Debug, Drop, Error)]
 pub enum RunError {
-    #[error("line {}: an operation has no result", .0.line)]
+    #[error("line {}: {}", .0.line, .0.cause)]
     Trap(TrapAt),
     #[error("a name has no place in the layout and no declaration")]
     Unplaced,

@@ -1,4 +1,4 @@
--- What holds of each value that a run gives, put together cells_along binds.
+-- What holds of each value that a run gives, put together along binds.
 use Rattle.std.specs.Prelude.{◌≡◌, ℕ, zero, suc, ◌<◌, Bool, true, false, if◌then◌else◌, List, Option, Result, Ok, Err, refl}
 use Rattle.std.proofs.Common.{ap, subst, arith}
 use Rattle.fl_types.specs.declared.access.AccessKind.{AccessKind}

@@ -25,8 +25,8 @@ pub record Seen : Type 0 where
   pub words : ℕ
   pub since : List Touch
 
-abbrev pub unseen : Seen
-unseen = record { statements = 0; touches = 0; words = 0; since = [] }
+abbrev pub nothing_seen : Seen
+nothing_seen = record { statements = 0; touches = 0; words = 0; since = [] }
 
 -- what is said of a parallel loop's touches at its end, by its line
 abbrev pub Judge : Type 0
@@ -64,7 +64,7 @@ stop_after judge limits seen [] = at_end
 stop_after judge limits seen (e ∷ es) = stop_or (seen_with judge limits seen e) (λ s. stop_after judge limits s es)
 
 abbrev pub first_stop : Judge → Limits → List Event → Stop
-first_stop judge limits es = stop_after judge limits unseen es
+first_stop judge limits es = stop_after judge limits nothing_seen es
 
 -- ---- ticks: one for each statement instance that begins up to the first stop, that one too where it is the stop
 
@@ -84,7 +84,7 @@ ticks_after judge limits seen [] = 0
 ticks_after judge limits seen (e ∷ es) = tick_of e + ticks_or (seen_with judge limits seen e) (λ s. ticks_after judge limits s es)
 
 abbrev pub ticks : Judge → Limits → List Event → ℕ
-ticks judge limits es = ticks_after judge limits unseen es
+ticks judge limits es = ticks_after judge limits nothing_seen es
 
 -- ---- the cells at the first stop, of ring values without tangents
 
@@ -98,7 +98,7 @@ cells_after judge limits seen (tells e ∷ ns) cells = cells_or (seen_with judge
 cells_after judge limits seen (stores p v ∷ ns) cells = cells_after judge limits seen ns (slice_set cells p v)
 
 abbrev pub cells_at_stop : Judge → Limits → Log → Cells → Cells
-cells_at_stop judge limits log cells = cells_after judge limits unseen (notes log) cells
+cells_at_stop judge limits log cells = cells_after judge limits nothing_seen (notes log) cells
 
 -- the statement instances
 abbrev pub statement_count : List Event → ℕ

@@ -1,5 +1,6 @@
 use fl_ast::Name;
 use ring_core::{Index, Ring};
+use thiserror::Error;
 
 /// A ring value with its tangent.
 #[derive(Clone, Copy, Debug)]
@@ -16,14 +17,15 @@ pub enum Value {
 }
 
 /// Why an evaluation has no result.
-#[derive(Debug, Drop)]
+#[derive(Debug, Drop, Error)]
 pub enum Cause {
-    /// An exact whole number outside -2^31 .. 2^31-1.
+    #[error("an exact whole number outside -2^31 .. 2^31-1")]
     Range,
+    #[error("a divisor of 0")]
     ZeroDivisor,
-    /// A subscript outside the bounds of this name.
+    #[error("a subscript outside the bounds of its name")]
     Bounds { name: Name },
-    /// A read of this name before it was set.
+    #[error("a read of a name before it was set")]
     Unset { name: Name },
 }
 
