@@ -1,216 +1,486 @@
 -- A run touches what the groups that it evaluates access, in order.
-use Rattle.std.specs.Prelude.{◌≡◌, ℕ, zero, suc, ◌+◌, ◌/◌, ◌%◌, ℤ, Bool, true, false, ◌&&◌, if◌then◌else◌, List, [], ◌∷◌, ◌++◌, map, Option, Some, None, Result, Ok, Err, refl}
+use Rattle.std.specs.Prelude.{◌≡◌, ℕ, zero, suc, ◌+◌, ◌/◌, ◌%◌, ℤ, pos, ◌+ℤ◌, ◌-ℤ◌, int_div, Bool, true, false, ◌&&◌, if◌then◌else◌, List, [], ◌∷◌, ◌++◌, map, Option, Some, None, Result, Ok, Err, refl}
+use Rattle.std.specs.Ordering.{int_eq}
 use Rattle.std.proofs.Common.{ap, sym, ◌∙◌, subst, append_assoc}
 use Rattle.std.proofs.lemmas.Bool.{and_parts}
 use Rattle.std.proofs.lemmas.List.{map-append}
 use Rattle.std.proofs.lemmas.Grind.{flat_map-append}
 use Rattle.fl_ast.specs.declared.decl.Decl.{Decl}
-use Rattle.fl_ast.specs.Tree.{Statement, assignment, branch, loop, Statements, no_statements, statement, Arms, no_arms, arm}
+use Rattle.fl_ast.specs.Tree.{Expression, literal, get, minus, binary, power, call, Expressions, no_expressions, expression, Designator, Condition, relation, negation, conjunction, disjunction, Statement, assignment, branch, loop, Statements, no_statements, statement, Arms, no_arms, arm}
 use Rattle.fl_types.specs.declared.access.PathStep.{PathStep}
 use Rattle.fl_types.specs.declared.access.PathStep.TheVariants.{Arm, Body}
 use Rattle.fl_types.specs.Sharing.{is_ring_name, assigns_in, sharing_in, is_plus, makes_accesses, ParallelLoop}
-use Rattle.fl_types.specs.Increment.{increment_terms}
-use Rattle.fl_types.specs.Accesses.{Scope, scope_of, Occurrence, reads, step_reads, condition_reads, accesses, accesses_all, arms_accesses, statement_count, statements_count, test_path}
+use Rattle.fl_types.specs.declared.access.AccessKind.{AccessKind}
+use Rattle.fl_types.specs.declared.access.AccessKind.TheVariants.{Read, Write}
+use Rattle.fl_types.specs.Increment.{Signed, increment_terms}
+use Rattle.fl_types.specs.Accesses.{Scope, scope_of, Occurrence, access, increment_kind, assignment_accesses, reads, reads_all, term_reads, step_reads, condition_reads, accesses, accesses_all, arms_accesses, statement_count, statements_count, test_path}
 use Rattle.fl_types.specs.Nests.{is_nest, iteration_body, inner_body}
 use Rattle.meaning.specs.declared.value.Value.{Value}
-use Rattle.meaning.specs.declared.value.Value.TheVariants.{Index}
+use Rattle.meaning.specs.declared.value.Value.TheVariants.{Index, Ring}
+use Rattle.meaning.specs.declared.value.Dual.{Dual}
 use Rattle.meaning.specs.declared.value.Cause.{Cause}
+use Rattle.meaning.specs.declared.value.Cause.TheVariants.{ZeroDivisor}
+use Rattle.meaning.specs.Values.{as_dual, as_kind, whole_number, whole_numbers}
+use Rattle.store_core.specs.Bounds.{clipped}
 use Rattle.meaning.specs.declared.value.TrapAt.{TrapAt}
 use Rattle.meaning.specs.declared.value.IterationCount.{IterationCount}
-use Rattle.meaning.specs.Logs.{Touch, Log, silence, both, within, condition, iteration, Passage, Traced, after, continuation, ◌>>=◌, inside, at_line, at_line_by, events_in}
-use Rattle.meaning.specs.Sites.{Cells, Site, in_turn, in_iteration, place_of}
-use Rattle.meaning.specs.Expressions.{holds}
-use Rattle.meaning.specs.Statements.{Run, with_log, assignment_by, turns_of, value_at, set_at, set_log_at, with_variable, turns, loop_words, private_names, with_all_unset, unset_log, private_words, one_turn, Heads, iterations, with_variables, one_iteration, run_turns, choice, in_arm, run, run_all, run_inner, run_arms}
+use Rattle.meaning.specs.Logs.{Touch, Log, silence, single, touched, sets, both, within, pushes, instance, right_side, turn, iteration, condition, taken, Traced, pure, lift, after, continuation, ◌>>=◌, inside, at_line, at_line_by, events_in}
+use Rattle.meaning.specs.Sites.{Cells, with_tangent, Site, in_turn, in_iteration, place_of, kind_of}
+use Rattle.meaning.specs.Expressions.{after_touch, content, read_cell, read_place, value_of, values_of, holds}
+use Rattle.meaning.specs.Expressions.{read as look_up}
+use Rattle.meaning.specs.Statements.{Run, with_log, store_at, after_push, put, terms_of, incremented_dual, increment_cell, increment_place, turns_by, step_value, content_at, assignment_by, turns_of, value_at, set_log_at, with_variable, turns, loop_words, private_names, with_all_unset, unset_log, private_words, one_turn, Heads, iterations, with_variables, run_turns, choice, in_arm, run, run_all, run_inner, run_arms}
 use Rattle.meaning.specs.Sequential.{is_sequential, are_sequential, are_arms_sequential}
-use Rattle.meaning.specs.Touches.{touches_in, scope_at, touch_of, AreTouches}
+use Rattle.meaning.specs.Touches.{touches_in, right_touches_in, scope_at, touch_of, AreTouches}
 use Rattle.meaning.specs.Reached.{cells_with, cells_with_heads, iteration_cells}
-use Rattle.meaning.specs.Groups.{Group, group_at, groups_from, groups_of_turns, groups_of, groups_of_all, groups_of_arms, touches_of_groups, AreGroupTouches, IsPiece, ArePieces, RunsTouch, iteration_of, groups_of_iteration, IterationsTouch}
-use Rattle.meaning.proofs.Touching.{touches_append, IsQuiet, condition_touches, assigned_touches, turns_touch, line_touches}
-
--- ---- logs and groups
-
-pub Told : Log → List Group → Type 0
-Told l gs = (k : ℕ) → AreGroupTouches k k l gs
+use Rattle.meaning.specs.Groups.{Group, group_at, right_accesses, assignment_group, right_of, groups_from, groups_of_turns, groups_of, groups_of_all, groups_of_arms, touches_of_groups, IsPiece, ArePieces, RunsTouch, iteration_of, groups_of_iteration, IterationsTouch}
+use Rattle.meaning.proofs.Touching.{touches_append, value_touches, terms_touch, condition_touches, assigned_touches, turns_touch, line_touches}
 
 append_nil : {A : Type 0} (xs : List A) → xs ++ [] ≡ xs
 append_nil [] = refl
 append_nil (x ∷ xs) = ap (λ (ys : List _). x ∷ ys) (append_nil xs)
 
-one_group : Group → ℕ → List (Option Touch)
-one_group g k = map (touch_of g.site g.cells k) g.accesses
+inner_same : (body : Statements) (s : Site) (c : Cells) → run_inner body s c ≡ run_all (inner_body body) s c
+inner_same no_statements s c = refl
+inner_same (statement (assignment line atomic p e) bs) s c = refl
+inner_same (statement (branch line arms other) bs) s c = refl
+inner_same (statement (loop line number directive var first last step body) bs) s c = refl
 
-groups_append : (k : ℕ) (gs hs : List Group) → touches_of_groups k (gs ++ hs) ≡ touches_of_groups k gs ++ touches_of_groups k hs
-groups_append k gs hs = flat_map-append (λ (g : Group). map (touch_of g.site g.cells k) g.accesses) gs hs
+-- ---- a reading of logs as touches, and the part of a group's accesses that it sees
 
-told_both : (l m : Log) (gs hs : List Group) → Told l gs → Told m hs → Told (both l m) (gs ++ hs)
-unfolding Told
-told_both l m gs hs h g k =
-    ap (map Some) (touches_append (events_in k l) (events_in k m))
-    ∙ (map-append Some (touches_in k l) (touches_in k m)
-    ∙ (ap (λ (ts : List (Option Touch)). ts ++ map Some (touches_in k m)) (h k)
-    ∙ (ap (λ (ts : List (Option Touch)). touches_of_groups k gs ++ ts) (g k)
-    ∙ sym (groups_append k gs hs))))
+pub record Reading (read : ℕ → Log → List Touch) (part : Group → List Occurrence) : Type 0 where
+  pub nothing : (k : ℕ) → read k silence ≡ []
+  pub pair : (k : ℕ) (a b : Log) → read k (both a b) ≡ read k a ++ read k b
+  pub stores : (k p : ℕ) (v : Option Value) → read k (sets p v) ≡ []
+  pub words : (k : ℕ) (v : Option Value) → read k (single (pushes v)) ≡ []
+  pub instances : (k : ℕ) (a : Log) → read k (within instance a) ≡ read k a
+  pub conditions : (k m : ℕ) (a : Log) → read k (within (condition m) a) ≡ read k a
+  pub arms : (k m : ℕ) (a : Log) → read k (within (taken m) a) ≡ read k a
+  pub turnings : (k j : ℕ) (a : Log) → read k (within (turn j) a) ≡ read k a
+  pub iterates : (i k : ℕ) (a : Log) → read i (within (iteration k) a) ≡ read k a
+  pub assignments : (s : Site) (c d : Cells) (line : ℕ) (atomic : Bool) (p : Designator) (e : Expression) (n : ℕ) (path : List PathStep) → (run (assignment line atomic p e) s c).out ≡ Ok d →
+      (k : ℕ) → map Some (read k (run (assignment line atomic p e) s c).log) ≡ map (touch_of s c k) (part (assignment_group n path s c line atomic p e))
+  pub tests : (s : Site) (c : Cells) (line : ℕ) (path : List PathStep) (test : Condition) (b : Bool) → (holds test s c).out ≡ Ok b →
+      (k : ℕ) → map Some (read k (holds test s c).log) ≡ map (touch_of s c k) (part (group_at s c (condition_reads (scope_at s) line path test)))
+  pub bounds : (s : Site) (c : Cells) (line : ℕ) (path : List PathStep) (first last : Expression) (step : Option Expression) (t : IterationCount) → (turns_of first last step s c).out ≡ Ok t →
+      (k : ℕ) → map Some (read k (turns_of first last step s c).log)
+      ≡ map (touch_of s c k) (part (group_at s c (reads (scope_at s) line path first ++ (reads (scope_at s) line path last ++ step_reads (scope_at s) line path step))))
 
--- one group, and further ones
-told_next : (s : Site) (c : Cells) (l m : Log) (os : List Occurrence) (hs : List Group) → AreTouches s c l os → Told m hs → Told (both l m) (group_at s c os ∷ hs)
-unfolding Told
-told_next s c l m os hs h g k =
-    ap (map Some) (touches_append (events_in k l) (events_in k m))
-    ∙ (map-append Some (touches_in k l) (touches_in k m)
-    ∙ (ap (λ (ts : List (Option Touch)). ts ++ map Some (touches_in k m)) (h k)
-    ∙ ap (λ (ts : List (Option Touch)). map (touch_of s c k) os ++ ts) (g k)))
+module _ (read : ℕ → Log → List Touch) (part : Group → List Occurrence) (w : Reading read part) where
+  Told : Log → List Group → Type 0
+  Told l gs = (k : ℕ) → map Some (read k l) ≡ touches_of_groups part k gs
 
-told_group : (s : Site) (c : Cells) (l : Log) (os : List Occurrence) → AreTouches s c l os → Told l (group_at s c os ∷ [])
-unfolding Told
-told_group s c l os h k = h k ∙ sym (append_nil (map (touch_of s c k) os))
+  IsUnseen : Log → Type 0
+  IsUnseen l = (k : ℕ) → read k l ≡ []
 
-told_nothing : (l : Log) → IsQuiet l → Told l []
-unfolding Told
-told_nothing l h k = ap (map Some) (h k)
+  groups_append : (k : ℕ) (gs hs : List Group) → touches_of_groups part k (gs ++ hs) ≡ touches_of_groups part k gs ++ touches_of_groups part k hs
+  groups_append k gs hs = flat_map-append (λ (g : Group). map (touch_of g.site g.cells k) (part g)) gs hs
 
-after_quiet : (l m : Log) (gs : List Group) → IsQuiet l → Told m gs → Told (both l m) gs
-unfolding Told
-after_quiet l m gs q h k = ap (map Some) (touches_append (events_in k l) (events_in k m) ∙ ap (λ (ts : List Touch). ts ++ touches_in k m) (q k)) ∙ h k
+  told_both : (l m : Log) (gs hs : List Group) → Told l gs → Told m hs → Told (both l m) (gs ++ hs)
+  unfolding Told
+  told_both l m gs hs h g k =
+      ap (map Some) (w.pair k l m)
+      ∙ (map-append Some (read k l) (read k m)
+      ∙ (ap (λ (ts : List (Option Touch)). ts ++ map Some (read k m)) (h k)
+      ∙ (ap (λ (ts : List (Option Touch)). touches_of_groups part k gs ++ ts) (g k)
+      ∙ sym (groups_append k gs hs))))
 
-before_quiet : (l m : Log) (gs : List Group) → Told l gs → IsQuiet m → Told (both l m) gs
-unfolding Told
-before_quiet l m gs h q k =
-    ap (map Some) (touches_append (events_in k l) (events_in k m) ∙ (ap (λ (ts : List Touch). touches_in k l ++ ts) (q k) ∙ append_nil (touches_in k l))) ∙ h k
+  IsGroup : Log → Group → Type 0
+  IsGroup l g = (k : ℕ) → map Some (read k l) ≡ map (touch_of g.site g.cells k) (part g)
 
--- ---- binds
+  -- one group, and further ones
+  told_next : (l m : Log) (g : Group) (hs : List Group) → IsGroup l g → Told m hs → Told (both l m) (g ∷ hs)
+  unfolding Told IsGroup
+  told_next l m g hs h i k =
+      ap (map Some) (w.pair k l m)
+      ∙ (map-append Some (read k l) (read k m)
+      ∙ (ap (λ (ts : List (Option Touch)). ts ++ map Some (read k m)) (h k)
+      ∙ ap (λ (ts : List (Option Touch)). map (touch_of g.site g.cells k) (part g) ++ ts) (i k)))
 
-continuation_told : {X A B : Type 0} (l : Log) (r : Result A X) (f : A → Traced X B) (gs : List Group) (h : A → List Group) → ((a : A) → r ≡ Ok a → Told l gs) → ((a : A) → r ≡ Ok a → (b : B) → (f a).out ≡ Ok b → Told (f a).log (h a))
-    → (b : B) → (continuation l r f).out ≡ Ok b → Told (continuation l r f).log (gs ++ groups_from r h)
-continuation_told l (Ok a) f gs h m n b e = told_both l (f a).log gs (h a) (m a refl) (n a refl b e)
-continuation_told l (Err x) f gs h m n b e = cc
+  told_group : (l : Log) (g : Group) → IsGroup l g → Told l (g ∷ [])
+  unfolding Told IsGroup
+  told_group l g h k = h k ∙ sym (append_nil (map (touch_of g.site g.cells k) (part g)))
 
--- a run, and then further ones
-then_told : (t : Traced TrapAt Cells) (f : Run) (gs : List Group) (h : Cells → List Group) → ((a : Cells) → t.out ≡ Ok a → Told t.log gs) → ((a : Cells) → t.out ≡ Ok a → (b : Cells) → (f a).out ≡ Ok b → Told (f a).log (h a))
-    → (b : Cells) → (t >>= f).out ≡ Ok b → Told (t >>= f).log (gs ++ groups_from t.out h)
-then_told t f gs h m n b e = continuation_told t.log t.out f gs h m n b e
+  told_nothing : Told silence []
+  unfolding Told
+  told_nothing k = ap (map Some) (w.nothing k)
 
--- and then nothing is touched
-continuation_quiet : {X : Type 0} (l : Log) (r : Result Cells X) (f : Cells → Traced X Cells) (gs : List Group) → ((a : Cells) → r ≡ Ok a → Told l gs) → ((a : Cells) → IsQuiet (f a).log) → (b : Cells) → (continuation l r f).out ≡ Ok b → Told (continuation l r f).log gs
-continuation_quiet l (Ok a) f gs m q b e = before_quiet l (f a).log gs (m a refl) (q a)
-continuation_quiet l (Err x) f gs m q b e = cc
+  after_unseen : (l m : Log) (gs : List Group) → IsUnseen l → Told m gs → Told (both l m) gs
+  unfolding Told IsUnseen
+  after_unseen l m gs q h k = ap (map Some) (w.pair k l m ∙ ap (λ (ts : List Touch). ts ++ read k m) (q k)) ∙ h k
 
--- one group that is evaluated at a line, and then further ones
-line_told : {A : Type 0} (s : Site) (c : Cells) (line : ℕ) (l : Log) (r : Result A Cause) (f : A → Traced TrapAt Cells) (os : List Occurrence) (h : A → List Group)
-    → ((a : A) → r ≡ Ok a → AreTouches s c l os) → ((a : A) → r ≡ Ok a → (b : Cells) → (f a).out ≡ Ok b → Told (f a).log (h a))
-    → (b : Cells) → (at_line_by line l r >>= f).out ≡ Ok b → Told (at_line_by line l r >>= f).log (group_at s c os ∷ groups_from r h)
-line_told s c line l (Ok a) f os h m n b e = told_next s c l (f a).log os (h a) (m a refl) (n a refl b e)
-line_told s c line l (Err x) f os h m n b e = cc
+  before_unseen : (l m : Log) (gs : List Group) → Told l gs → IsUnseen m → Told (both l m) gs
+  unfolding Told IsUnseen
+  before_unseen l m gs h q k = ap (map Some) (w.pair k l m ∙ (ap (λ (ts : List Touch). read k l ++ ts) (q k) ∙ append_nil (read k l))) ∙ h k
 
--- the same in a condition's passage
-test_told : (s : Site) (c : Cells) (line m : ℕ) (l : Log) (r : Result Bool Cause) (f : Bool → Traced TrapAt Cells) (os : List Occurrence) (h : Bool → List Group)
-    → ((a : Bool) → r ≡ Ok a → AreTouches s c l os) → ((a : Bool) → r ≡ Ok a → (b : Cells) → (f a).out ≡ Ok b → Told (f a).log (h a))
-    → (b : Cells) → (inside (condition m) (at_line_by line l r) >>= f).out ≡ Ok b → Told (inside (condition m) (at_line_by line l r) >>= f).log (group_at s c os ∷ groups_from r h)
-test_told s c line m l (Ok a) f os h p n b e = told_next s c (within (condition m) l) (f a).log os (h a) (p a refl) (n a refl b e)
-test_told s c line m l (Err x) f os h p n b e = cc
+  both_unseen : (l m : Log) → IsUnseen l → IsUnseen m → IsUnseen (both l m)
+  unfolding IsUnseen
+  both_unseen l m p q k = w.pair k l m ∙ (ap (λ (ts : List Touch). ts ++ read k m) (p k) ∙ q k)
 
--- ---- stores and words
+  -- ---- binds
 
-set_quiet : (o : Option ℕ) (v : Option Value) → IsQuiet (set_log_at o v)
-set_quiet None v k = refl
-set_quiet (Some p) v k = refl
+  continuation_told : {X A B : Type 0} (l : Log) (r : Result A X) (f : A → Traced X B) (gs : List Group) (h : A → List Group) → ((a : A) → r ≡ Ok a → Told l gs) → ((a : A) → r ≡ Ok a → (b : B) → (f a).out ≡ Ok b → Told (f a).log (h a))
+      → (b : B) → (continuation l r f).out ≡ Ok b → Told (continuation l r f).log (gs ++ groups_from r h)
+  continuation_told l (Ok a) f gs h m n b e = told_both l (f a).log gs (h a) (m a refl) (n a refl b e)
+  continuation_told l (Err x) f gs h m n b e = cc
 
-unset_quiet : (s : Site) (xs : List (List ℕ)) → IsQuiet (unset_log s xs)
-unset_quiet s [] k = refl
-unset_quiet s (x ∷ xs) k =
-    touches_append (events_in k (set_log_at (place_of s x []) None)) (events_in k (unset_log s xs))
-    ∙ (ap (λ (ts : List Touch). ts ++ touches_in k (unset_log s xs)) (set_quiet (place_of s x []) None k) ∙ unset_quiet s xs k)
+  -- a run, and then further ones
+  then_told : (t : Traced TrapAt Cells) (f : Run) (gs : List Group) (h : Cells → List Group) → ((a : Cells) → t.out ≡ Ok a → Told t.log gs) → ((a : Cells) → t.out ≡ Ok a → (b : Cells) → (f a).out ≡ Ok b → Told (f a).log (h a))
+      → (b : Cells) → (t >>= f).out ≡ Ok b → Told (t >>= f).log (gs ++ groups_from t.out h)
+  then_told t f gs h m n b e = continuation_told t.log t.out f gs h m n b e
 
-words_quiet : (s : Site) (body : Statements) (xs : List (List ℕ)) (cells : Cells) → IsQuiet (private_words s body xs cells)
-words_quiet s body [] cells k = refl
-words_quiet s body (x ∷ xs) cells k = by_test (assigns_in x body && s.pushed x) (words_quiet s body xs cells k)
+  -- and then nothing is seen
+  continuation_unseen : {X : Type 0} (l : Log) (r : Result Cells X) (f : Cells → Traced X Cells) (gs : List Group) → ((a : Cells) → r ≡ Ok a → Told l gs) → ((a : Cells) → IsUnseen (f a).log)
+      → (b : Cells) → (continuation l r f).out ≡ Ok b → Told (continuation l r f).log gs
+  continuation_unseen l (Ok a) f gs m q b e = before_unseen l (f a).log gs (m a refl) (q a)
+  continuation_unseen l (Err x) f gs m q b e = cc
+
+  -- one group that is evaluated at a line, and then further ones
+  line_told : {A : Type 0} (line : ℕ) (l : Log) (r : Result A Cause) (f : A → Traced TrapAt Cells) (g : Group) (h : A → List Group)
+      → ((a : A) → r ≡ Ok a → IsGroup l g) → ((a : A) → r ≡ Ok a → (b : Cells) → (f a).out ≡ Ok b → Told (f a).log (h a))
+      → (b : Cells) → (at_line_by line l r >>= f).out ≡ Ok b → Told (at_line_by line l r >>= f).log (g ∷ groups_from r h)
+  line_told line l (Ok a) f g h m n b e = told_next l (f a).log g (h a) (m a refl) (n a refl b e)
+  line_told line l (Err x) f g h m n b e = cc
+
+  in_condition : (m : ℕ) (l : Log) (g : Group) → IsGroup l g → IsGroup (within (condition m) l) g
+  unfolding IsGroup
+  in_condition m l g h k = ap (map Some) (w.conditions k m l) ∙ h k
+
+  -- the same in a condition's passage
+  test_told : (line m : ℕ) (l : Log) (r : Result Bool Cause) (f : Bool → Traced TrapAt Cells) (g : Group) (h : Bool → List Group)
+      → ((a : Bool) → r ≡ Ok a → IsGroup l g) → ((a : Bool) → r ≡ Ok a → (b : Cells) → (f a).out ≡ Ok b → Told (f a).log (h a))
+      → (b : Cells) → (inside (condition m) (at_line_by line l r) >>= f).out ≡ Ok b → Told (inside (condition m) (at_line_by line l r) >>= f).log (g ∷ groups_from r h)
+  test_told line m l (Ok a) f g h p n b e = told_next (within (condition m) l) (f a).log g (h a) (in_condition m l g (p a refl)) (n a refl b e)
+  test_told line m l (Err x) f g h p n b e = cc
+
+  -- ---- stores and words
+
+  set_unseen : (o : Option ℕ) (v : Option Value) → IsUnseen (set_log_at o v)
+  unfolding IsUnseen
+  set_unseen None v k = w.nothing k
+  set_unseen (Some p) v k = w.stores k p (with_tangent 0 v)
+
+  unset_unseen : (s : Site) (xs : List (List ℕ)) → IsUnseen (unset_log s xs)
+  unfolding IsUnseen
+  unset_unseen s [] k = w.nothing k
+  unset_unseen s (x ∷ xs) k = both_unseen (set_log_at (place_of s x []) None) (unset_log s xs) (set_unseen (place_of s x []) None) (unset_unseen s xs) k
+
+  words_unseen : (s : Site) (body : Statements) (xs : List (List ℕ)) (cells : Cells) → IsUnseen (private_words s body xs cells)
+  unfolding IsUnseen
+  words_unseen s body [] cells k = w.nothing k
+  words_unseen s body (x ∷ xs) cells k =
+      both_unseen (if assigns_in x body && s.pushed x then single (pushes (with_tangent 0 (content_at cells (place_of s x [])))) else silence) (private_words s body xs cells) (by_test (assigns_in x body && s.pushed x)) (words_unseen s body xs cells) k
+    where
+      by_test : (b : Bool) → (j : ℕ) → read j (if b then single (pushes (with_tangent 0 (content_at cells (place_of s x [])))) else silence) ≡ []
+      by_test true j = w.words j (with_tangent 0 (content_at cells (place_of s x [])))
+      by_test false j = w.nothing j
+
+  loop_words_unseen : (t : IterationCount) → IsUnseen (loop_words t)
+  unfolding IsUnseen
+  loop_words_unseen t k =
+      both_unseen (single (pushes (Some (Index t.first)))) (both (single (pushes (Some (Index t.last)))) (single (pushes (Some (Index t.step))))) (λ j. w.words j (Some (Index t.first)))
+      (both_unseen (single (pushes (Some (Index t.last)))) (single (pushes (Some (Index t.step)))) (λ j. w.words j (Some (Index t.last))) (λ j. w.words j (Some (Index t.step)))) k
+
+  -- what comes without a trap
+  abbrev ToldBy : Run → Cells → List Group → Type 0
+  ToldBy f c gs = (d : Cells) → (f c).out ≡ Ok d → Told (f c).log gs
+
+  variable_told : (s : Site) (x : List ℕ) (z : ℤ) (f : Run) (c : Cells) (gs : List Group) → ToldBy f (cells_with s x z c) gs → ToldBy (with_variable s x z f) c gs
+  variable_told s x z f c gs h d e = after_unseen (set_log_at (place_of s x []) (Some (Index z))) (f (cells_with s x z c)).log gs (set_unseen (place_of s x []) (Some (Index z))) (h d e)
+
+  variables_told : (s : Site) (hs : Heads) (k : ℕ) (f : Run) (c : Cells) (gs : List Group) → ToldBy f (cells_with_heads s hs k c) gs → ToldBy (with_variables s hs k f) c gs
+  variables_told s [] k f c gs h = h
+  variables_told s (x ∷ []) k f c gs h = variable_told s x.0 (value_at x.1 k) f c gs h
+  variables_told s (x ∷ y ∷ hs) k f c gs h =
+      variable_told s x.0 (value_at x.1 (k / iterations (y ∷ hs))) (with_variables s (y ∷ hs) (k % iterations (y ∷ hs)) f) c gs
+      (variables_told s (y ∷ hs) (k % iterations (y ∷ hs)) f (cells_with s x.0 (value_at x.1 (k / iterations (y ∷ hs))) c) gs h)
+
+  turns_told : (n : ℕ) (f : ℕ → Run) (g : ℕ → Cells → List Group) → ((k : ℕ) (c : Cells) → ToldBy (f k) c (g k c)) → (c : Cells) → ToldBy (turns n f) c (groups_of_turns n f g c)
+  turns_told zero f g h c d e = told_nothing
+  turns_told (suc n) f g h c d e = then_told (turns n f c) (f n) (groups_of_turns n f g c) (g n) (λ a i. turns_told n f g h c a i) (λ a i b j. h n a b j) d e
+
+  in_turn_told : (j : ℕ) (l : Log) (gs : List Group) → Told l gs → Told (within (turn j) l) gs
+  unfolding Told
+  in_turn_told j l gs h k = ap (map Some) (w.turnings k j l) ∙ h k
+
+  in_taken_told : (m : ℕ) (l : Log) (gs : List Group) → Told l gs → Told (within (taken m) l) gs
+  unfolding Told
+  in_taken_told m l gs h k = ap (map Some) (w.arms k m l) ∙ h k
+
+  in_instance_told : (l : Log) (gs : List Group) → Told l gs → Told (within instance l) gs
+  unfolding Told
+  in_instance_told l gs h k = ap (map Some) (w.instances k l) ∙ h k
+
+  one_turn_told : (s : Site) (var : List ℕ) (t : IterationCount) (body : Site → Run) (g : Cells → List Group) → ((c : Cells) → ToldBy (body (in_turn s var)) c (g c)) → (k : ℕ) (c : Cells)
+      → ToldBy (one_turn s var t body k) c (g (cells_with s var (value_at t k) c))
+  one_turn_told s var t body g h k c d e =
+      in_turn_told k (with_variable s var (value_at t k) (body (in_turn s var)) c).log (g (cells_with s var (value_at t k) c))
+      (variable_told s var (value_at t k) (body (in_turn s var)) c (g (cells_with s var (value_at t k) c)) (h (cells_with s var (value_at t k) c)) d e)
+
+  run_turns_told : (s : Site) (var : List ℕ) (t : IterationCount) (body : Site → Run) (g : Cells → List Group) → ((c : Cells) → ToldBy (body (in_turn s var)) c (g c)) → (c : Cells)
+      → ToldBy (run_turns var body s t) c (groups_of_turns t.count (one_turn s var t body) (λ k a. g (cells_with s var (value_at t k) a)) c)
+  run_turns_told s var t body g h c d e =
+      continuation_unseen (turns t.count (one_turn s var t body) c).log (turns t.count (one_turn s var t body) c).out (with_log (loop_words t))
+      (groups_of_turns t.count (one_turn s var t body) (λ k a. g (cells_with s var (value_at t k) a)) c)
+      (λ a i. turns_told t.count (one_turn s var t body) (λ k b. g (cells_with s var (value_at t k) b)) (one_turn_told s var t body g h) c a i) (λ a. loop_words_unseen t) d e
+
+  in_arm_told : (m : ℕ) (f : Run) (c : Cells) (gs : List Group) → ToldBy f c gs → ToldBy (in_arm m f) c gs
+  unfolding IsUnseen
+  in_arm_told m f c gs h d e =
+      in_taken_told m (f c >>= with_log (single (pushes (Some (Index (pos m)))))).log gs
+      (continuation_unseen (f c).log (f c).out (with_log (single (pushes (Some (Index (pos m)))))) gs (λ a i. h a i) (λ a k. w.words k (Some (Index (pos m)))) d e)
+
+  by_choice : (b : Bool) (f g : Run) (c : Cells) (gs hs : List Group) → ToldBy f c gs → ToldBy g c hs → ToldBy (choice b f g) c (if b then gs else hs)
+  by_choice true f g c gs hs h k = h
+  by_choice false f g c gs hs h k = k
+
+  -- ---- statements
+
+  is_assignment : (s : Site) (c d : Cells) (line : ℕ) (atomic : Bool) (p : Designator) (e : Expression) (n : ℕ) (path : List PathStep) → (run (assignment line atomic p e) s c).out ≡ Ok d
+      → IsGroup (run (assignment line atomic p e) s c).log (assignment_group n path s c line atomic p e)
+  unfolding IsGroup
+  is_assignment s c d line atomic p e n path h k = w.assignments s c d line atomic p e n path h k
+
+  is_test : (s : Site) (c : Cells) (line : ℕ) (path : List PathStep) (test : Condition) (b : Bool) → (holds test s c).out ≡ Ok b → IsGroup (holds test s c).log (group_at s c (condition_reads (scope_at s) line path test))
+  unfolding IsGroup
+  is_test s c line path test b h k = w.tests s c line path test b h k
+
+  are_bounds : (s : Site) (c : Cells) (line : ℕ) (path : List PathStep) (first last : Expression) (step : Option Expression) (t : IterationCount) → (turns_of first last step s c).out ≡ Ok t
+      → IsGroup (turns_of first last step s c).log (group_at s c (reads (scope_at s) line path first ++ (reads (scope_at s) line path last ++ step_reads (scope_at s) line path step)))
+  unfolding IsGroup
+  are_bounds s c line path first last step t h k = w.bounds s c line path first last step t h k
+
+  mutual
+    run_told : (x : Statement) (n : ℕ) (path : List PathStep) (s : Site) → is_sequential x ≡ true → (c : Cells) → ToldBy (run x s) c (groups_of n path x s c)
+    run_told (assignment line atomic p e) n path s q c d i =
+        told_group (run (assignment line atomic p e) s c).log (assignment_group n path s c line atomic p e) (is_assignment s c d line atomic p e n path i)
+    run_told (branch line arms other) n path s q c d i =
+        let a = and_parts (are_arms_sequential arms) (are_sequential other) q in
+        in_instance_told (run_arms arms line 0 (run_all other) s c).log (groups_of_arms line n (n + 1) 0 path arms (λ k steps. groups_of_all k steps other) s c)
+        (arms_told arms line n (n + 1) 0 path (run_all other) (λ k steps. groups_of_all k steps other) s a.0 (λ k steps b. all_told other k steps s a.1 b) c d i)
+    run_told (loop line number None var first last step body) n path s q c d i =
+        let g : Group = group_at s c (reads (scope_at s) line path first ++ (reads (scope_at s) line path last ++ step_reads (scope_at s) line path step)) in
+        let t : Traced Cause IterationCount = turns_of first last step s c in
+        let inner : Cells → List Group = λ a. groups_of_all (n + 1) (path ++ Body n ∷ []) body (in_turn s var) a in
+        let more : IterationCount → List Group = λ u. groups_of_turns u.count (one_turn s var u (run_all body)) (λ k b. inner (cells_with s var (value_at u k) b)) c in
+        in_instance_told (at_line line t >>= (λ u. run_turns var (run_all body) s u c)).log (g ∷ groups_from t.out more)
+        (line_told line t.log t.out (λ u. run_turns var (run_all body) s u c) g more
+        (λ a j. are_bounds s c line path first last step a j)
+        (λ a j b f. run_turns_told s var a (run_all body) inner (λ k. all_told body (n + 1) (path ++ Body n ∷ []) (in_turn s var) q k) c b f) d i)
+    run_told (loop line number (Some directive) var first last step body) n path s q c d i = cc
+
+    all_told : (xs : Statements) (n : ℕ) (path : List PathStep) (s : Site) → are_sequential xs ≡ true → (c : Cells) → ToldBy (run_all xs s) c (groups_of_all n path xs s c)
+    all_told no_statements n path s q c d i = told_nothing
+    all_told (statement x xs) n path s q c d i =
+        let a = and_parts (is_sequential x) (are_sequential xs) q in
+        then_told (run x s c) (run_all xs s) (groups_of n path x s c) (groups_of_all (n + statement_count x) path xs s) (λ b j. run_told x n path s a.0 c b j) (λ b j f g. all_told xs (n + statement_count x) path s a.1 b f g) d i
+
+    arms_told : (arms : Arms) (line n k m : ℕ) (path : List PathStep) (other : Site → Run) (g : ℕ → List PathStep → Site → Cells → List Group) (s : Site) → are_arms_sequential arms ≡ true
+        → ((j : ℕ) (steps : List PathStep) (c : Cells) → ToldBy (other s) c (g j steps s c)) → (c : Cells) → ToldBy (run_arms arms line m other s) c (groups_of_arms line n k m path arms g s c)
+    arms_told no_arms line n k m path other g s q h c d i = in_arm_told m (other s) c (g k (path ++ Arm n m ∷ []) s c) (h k (path ++ Arm n m ∷ []) c) d i
+    arms_told (arm test body arms) line n k m path other g s q h c d i =
+        let a = and_parts (are_sequential body) (are_arms_sequential arms) q in
+        let t : Traced Cause Bool = holds test s c in
+        test_told line m t.log t.out (λ b. choice b (in_arm m (run_all body s)) (run_arms arms line (m + 1) other s) c) (group_at s c (condition_reads (scope_at s) line (test_path path n m) test))
+        (λ b. if b then groups_of_all k (path ++ Arm n m ∷ []) body s c else groups_of_arms line n (k + statements_count body) (m + 1) path arms g s c)
+        (λ b j. is_test s c line (test_path path n m) test b j)
+        (λ b j f u. by_choice b (in_arm m (run_all body s)) (run_arms arms line (m + 1) other s) c (groups_of_all k (path ++ Arm n m ∷ []) body s c) (groups_of_arms line n (k + statements_count body) (m + 1) path arms g s c)
+        (in_arm_told m (run_all body s) c (groups_of_all k (path ++ Arm n m ∷ []) body s c) (λ v x. all_told body k (path ++ Arm n m ∷ []) s a.0 c v x))
+        (λ v x. arms_told arms line n (k + statements_count body) (m + 1) path other g s a.1 h c v x) f u) d i
+
+  pub run_read : (xs : Statements) (n : ℕ) (path : List PathStep) (s : Site) → are_sequential xs ≡ true → (c d : Cells) → (run_all xs s c).out ≡ Ok d → (k : ℕ) → map Some (read k (run_all xs s c).log) ≡ touches_of_groups part k (groups_of_all n path xs s c)
+  unfolding Told
+  run_read xs n path s q c d e k = all_told xs n path s q c d e k
+
+  -- ---- iterations
+
+  body_told : (b : Bool) (body : Statements) (s : Site) → are_sequential (if b then inner_body body else body) ≡ true → (c : Cells)
+      → ToldBy ((if b then run_inner body else run_all body) s) c (groups_of_all 1 [] (if b then inner_body body else body) s c)
+  body_told true body s q c =
+      subst (λ (t : Traced TrapAt Cells). (d : Cells) → t.out ≡ Ok d → Told t.log (groups_of_all 1 [] (inner_body body) s c)) (sym (inner_same body s c)) (all_told (inner_body body) 1 [] s q c)
+  body_told false body s q c = all_told body 1 [] s q c
+
+  pub iteration_read : (s : Site) (l : ParallelLoop) (hs : Heads) (k : ℕ) → are_sequential (iteration_body l.directive l.body) ≡ true → (c d : Cells) → (iteration_of s l hs k c).out ≡ Ok d → (i : ℕ)
+      → map Some (read i (iteration_of s l hs k c).log) ≡ touches_of_groups part k (groups_of_iteration s l hs k c)
+  unfolding Told
+  iteration_read s l hs k q c d e i =
+      let names : List (List ℕ) = private_names s l.directive l.var l.body in
+      let here : Site = in_iteration s l.directive l.var l.body in
+      let a : Cells = with_all_unset s names c in
+      let f : Run = (if is_nest l.directive l.body then run_inner l.body else run_all l.body) here in
+      let gs : List Group = groups_of_iteration s l hs k c in
+      let t : Traced TrapAt Cells = with_variables s hs k f a in
+      let u : Traced TrapAt Cells = after (unset_log s names) t >>= (λ b. with_log (private_words s l.body names b) b) in
+      ap (map Some) (w.iterates i k u.log)
+      ∙ continuation_unseen (both (unset_log s names) t.log) t.out (λ b. with_log (private_words s l.body names b) b) gs
+      (λ b j. after_unseen (unset_log s names) t.log gs (unset_unseen s names) (variables_told s hs k f a gs (body_told (is_nest l.directive l.body) l.body here q (cells_with_heads s hs k a)) b j))
+      (λ b. words_unseen s l.body names b) d e k
+
+-- ---- the two readings
+
+of_line : {A : Type 0} (line : ℕ) (t : Traced Cause A) (a : A) → (at_line line t).out ≡ Ok a → (t.out ≡ Ok a) × ((at_line line t).log ≡ t.log)
+of_line {A} line t a h = by_out t.out h
   where
-    by_test : (b : Bool) → touches_in k (private_words s body xs cells) ≡ []
-        → touches_in k (both (if b then Rattle.meaning.specs.Logs.single (Rattle.meaning.specs.Logs.pushes (Rattle.meaning.specs.Sites.with_tangent 0 (Rattle.meaning.specs.Statements.content_at cells (place_of s x [])))) else silence) (private_words s body xs cells)) ≡ []
-    by_test true h = h
-    by_test false h = h
+    by_out : (r : Result A Cause) → (at_line_by line t.log r).out ≡ Ok a → (r ≡ Ok a) × ((at_line_by line t.log r).log ≡ t.log)
+    by_out (Ok b) e = let q : b ≡ a = cc in (ap Ok q, refl)
+    by_out (Err x) e = cc
 
--- what comes without a trap
-abbrev ToldBy : Run → Cells → List Group → Type 0
-ToldBy f c gs = (d : Cells) → (f c).out ≡ Ok d → Told (f c).log gs
+all_reading : Reading touches_in (λ g. g.accesses)
+all_reading = record {
+  nothing = λ k. refl;
+  pair = λ k a b. touches_append (events_in k a) (events_in k b);
+  stores = λ k p v. refl;
+  words = λ k v. refl;
+  instances = λ k a. refl;
+  conditions = λ k m a. refl;
+  arms = λ k m a. refl;
+  turnings = λ k j a. refl;
+  iterates = λ i k a. refl;
+  assignments = λ s c d line atomic p e n path h k.
+      line_touches s c line (assignment_by s c atomic p e (increment_terms s.ring p e)) _ (assigned_touches s c line path atomic p e (increment_terms s.ring p e)) d h k;
+  tests = λ s c line path test b h k. condition_touches test s c line path b h k;
+  bounds = λ s c line path first last step t h k. turns_touch first last step s c line path t h k;
+}
 
-variable_told : (s : Site) (x : List ℕ) (z : ℤ) (f : Run) (c : Cells) (gs : List Group) → ToldBy f (cells_with s x z c) gs → ToldBy (with_variable s x z f) c gs
-variable_told s x z f c gs h d e = after_quiet (set_log_at (place_of s x []) (Some (Index z))) (f (cells_with s x z c)).log gs (set_quiet (place_of s x []) (Some (Index z))) (h d e)
+-- what is evaluated outside of right sides
+abbrev IsOutside : (List ℕ → Bool) → Log → Type 0
+IsOutside on l = (k : ℕ) → right_touches_in on k l ≡ []
 
-variables_told : (s : Site) (hs : Heads) (k : ℕ) (f : Run) (c : Cells) (gs : List Group) → ToldBy f (cells_with_heads s hs k c) gs → ToldBy (with_variables s hs k f) c gs
-variables_told s [] k f c gs h = h
-variables_told s (x ∷ []) k f c gs h = variable_told s x.0 (value_at x.1 k) f c gs h
-variables_told s (x ∷ y ∷ hs) k f c gs h =
-    variable_told s x.0 (value_at x.1 (k / iterations (y ∷ hs))) (with_variables s (y ∷ hs) (k % iterations (y ∷ hs)) f) c gs
-    (variables_told s (y ∷ hs) (k % iterations (y ∷ hs)) f (cells_with s x.0 (value_at x.1 (k / iterations (y ∷ hs))) c) gs h)
+abbrev Outside : {X A : Type 0} → (List ℕ → Bool) → Traced X A → Type 0
+Outside on t = IsOutside on t.log
 
-turns_told : (n : ℕ) (f : ℕ → Run) (g : ℕ → Cells → List Group) → ((k : ℕ) (c : Cells) → ToldBy (f k) c (g k c)) → (c : Cells) → ToldBy (turns n f) c (groups_of_turns n f g c)
-turns_told zero f g h c d e = told_nothing silence (λ k. refl)
-turns_told (suc n) f g h c d e = then_told (turns n f c) (f n) (groups_of_turns n f g c) (g n) (λ a i. turns_told n f g h c a i) (λ a i b j. h n a b j) d e
+outside_continuation : {X A B : Type 0} (on : List ℕ → Bool) (l : Log) (r : Result A X) (f : A → Traced X B) → IsOutside on l → ((a : A) → Outside on (f a)) → Outside on (continuation l r f)
+outside_continuation on l (Ok a) f h g k = ap (λ (ts : List Touch). ts ++ right_touches_in on k (f a).log) (h k) ∙ g a k
+outside_continuation on l (Err x) f h g k = h k
 
-one_turn_told : (s : Site) (var : List ℕ) (t : IterationCount) (body : Site → Run) (g : Cells → List Group) → ((c : Cells) → ToldBy (body (in_turn s var)) c (g c)) → (k : ℕ) (c : Cells)
-    → ToldBy (one_turn s var t body k) c (g (cells_with s var (value_at t k) c))
-unfolding Told
-one_turn_told s var t body g h k c d e =
-    variable_told s var (value_at t k) (body (in_turn s var)) c (g (cells_with s var (value_at t k) c)) (h (cells_with s var (value_at t k) c)) d e
+outside_then : {X A B : Type 0} (on : List ℕ → Bool) (t : Traced X A) (f : A → Traced X B) → Outside on t → ((a : A) → Outside on (f a)) → Outside on (t >>= f)
+outside_then on t f h g = outside_continuation on t.log t.out f h g
 
-run_turns_told : (s : Site) (var : List ℕ) (t : IterationCount) (body : Site → Run) (g : Cells → List Group) → ((c : Cells) → ToldBy (body (in_turn s var)) c (g c)) → (c : Cells)
-    → ToldBy (run_turns var body s t) c (groups_of_turns t.count (one_turn s var t body) (λ k a. g (cells_with s var (value_at t k) a)) c)
-run_turns_told s var t body g h c d e =
-    continuation_quiet (turns t.count (one_turn s var t body) c).log (turns t.count (one_turn s var t body) c).out (with_log (loop_words t))
-    (groups_of_turns t.count (one_turn s var t body) (λ k a. g (cells_with s var (value_at t k) a)) c)
-    (λ a i. turns_told t.count (one_turn s var t body) (λ k b. g (cells_with s var (value_at t k) b)) (one_turn_told s var t body g h) c a i) (λ a k. refl) d e
+outside_touch : {X A : Type 0} (on : List ℕ → Bool) (s : Site) (x : List ℕ) (p : ℕ) (n : AccessKind) (t : Traced X A) → Outside on t → Outside on (after_touch s x p n t)
+outside_touch on s x p n t h k = by_test (s.accessed x)
+  where
+    by_test : (b : Bool) → right_touches_in on k (if b then after (touched p n) t else t).log ≡ []
+    by_test true = h k
+    by_test false = h k
 
-in_arm_told : (m : ℕ) (f : Run) (c : Cells) (gs : List Group) → ToldBy f c gs → ToldBy (in_arm m f) c gs
-unfolding Told
-in_arm_told m f c gs h d e = continuation_quiet (f c).log (f c).out _ gs (λ a i. h a i) (λ a k. refl) d e
+outside_cell : (on : List ℕ → Bool) (s : Site) (x : List ℕ) (p : ℕ) (o : Option Value) → Outside on (read_cell s x p o)
+outside_cell on s x p None k = refl
+outside_cell on s x p (Some v) k = outside_touch on s x p Read (pure {X = Cause} v) (λ j. refl) k
 
--- ---- statements
-
-in_instance : (l : Log) (gs : List Group) → Told l gs → Told (within Rattle.meaning.specs.Logs.instance l) gs
-unfolding Told
-in_instance l gs h = h
-
-by_choice : (b : Bool) (f g : Run) (c : Cells) (gs hs : List Group) → ToldBy f c gs → ToldBy g c hs → ToldBy (choice b f g) c (if b then gs else hs)
-by_choice true f g c gs hs h k = h
-by_choice false f g c gs hs h k = k
+outside_place : (on : List ℕ → Bool) (s : Site) (c : Cells) (x : List ℕ) (o : Option ℕ) → Outside on (read_place s c x o)
+outside_place on s c x None k = refl
+outside_place on s c x (Some p) k = outside_cell on s x p (content c p) k
 
 mutual
-  run_told : (x : Statement) (n : ℕ) (path : List PathStep) (s : Site) → is_sequential x ≡ true → (c : Cells) → ToldBy (run x s) c (groups_of n path x s c)
-  run_told (assignment line atomic p e) n path s q c d i =
-      told_group s c (run (assignment line atomic p e) s c).log (accesses (scope_at s) n path (assignment line atomic p e))
-      (line_touches s c line (assignment_by s c atomic p e (increment_terms s.ring p e)) _ (assigned_touches s c line path atomic p e (increment_terms s.ring p e)) d i)
-  run_told (branch line arms other) n path s q c d i =
-      let a = and_parts (are_arms_sequential arms) (are_sequential other) q in
-      in_instance (run_arms arms line 0 (run_all other) s c).log (groups_of_arms line n (n + 1) 0 path arms (λ k steps. groups_of_all k steps other) s c)
-      (arms_told arms line n (n + 1) 0 path (run_all other) (λ k steps. groups_of_all k steps other) s a.0 (λ k steps b. all_told other k steps s a.1 b) c d i)
-  run_told (loop line number None var first last step body) n path s q c d i =
-      let os : List Occurrence = reads (scope_at s) line path first ++ (reads (scope_at s) line path last ++ step_reads (scope_at s) line path step) in
-      let t : Traced Cause IterationCount = turns_of first last step s c in
-      let inner : Cells → List Group = λ a. groups_of_all (n + 1) (path ++ Body n ∷ []) body (in_turn s var) a in
-      in_instance _ (group_at s c os ∷ groups_from t.out (λ u. groups_of_turns u.count (one_turn s var u (run_all body)) (λ k b. inner (cells_with s var (value_at u k) b)) c))
-      (line_told s c line t.log t.out (λ u. run_turns var (run_all body) s u c) os (λ u. groups_of_turns u.count (one_turn s var u (run_all body)) (λ k b. inner (cells_with s var (value_at u k) b)) c)
-      (λ a j. turns_touch first last step s c line path a j)
-      (λ a j b f. run_turns_told s var a (run_all body) inner (λ g. all_told body (n + 1) (path ++ Body n ∷ []) (in_turn s var) q g) c b f) d i)
-  run_told (loop line number (Some directive) var first last step body) n path s q c d i = cc
+  outside_value : (on : List ℕ → Bool) (a : Expression) (s : Site) (c : Cells) → Outside on (value_of a s c)
+  outside_value on (literal n i) s c k = refl
+  outside_value on (get x ss) s c k = outside_then on (values_of ss s c) (look_up s c x) (outside_values on ss s c) (λ vs. outside_place on s c x (place_of s x (whole_numbers vs))) k
+  outside_value on (minus a) s c k = outside_then on (value_of a s c) _ (outside_value on a s c) (λ v j. refl) k
+  outside_value on (binary op a b) s c k = outside_then on (value_of a s c) _ (outside_value on a s c) (λ v. outside_then on (value_of b s c) _ (outside_value on b s c) (λ u j. refl)) k
+  outside_value on (power a n) s c k = outside_then on (value_of a s c) _ (outside_value on a s c) (λ v j. refl) k
+  outside_value on (call f ss) s c k = outside_then on (values_of ss s c) _ (outside_values on ss s c) (λ vs j. refl) k
 
-  pub all_told : (xs : Statements) (n : ℕ) (path : List PathStep) (s : Site) → are_sequential xs ≡ true → (c : Cells) → ToldBy (run_all xs s) c (groups_of_all n path xs s c)
-  all_told no_statements n path s q c d i = told_nothing silence (λ k. refl)
-  all_told (statement x xs) n path s q c d i =
-      let a = and_parts (is_sequential x) (are_sequential xs) q in
-      then_told (run x s c) (run_all xs s) (groups_of n path x s c) (groups_of_all (n + statement_count x) path xs s) (λ b j. run_told x n path s a.0 c b j) (λ b j f g. all_told xs (n + statement_count x) path s a.1 b f g) d i
+  outside_values : (on : List ℕ → Bool) (ss : Expressions) (s : Site) (c : Cells) → Outside on (values_of ss s c)
+  outside_values on no_expressions s c k = refl
+  outside_values on (expression a ss) s c k = outside_then on (value_of a s c) _ (outside_value on a s c) (λ v. outside_then on (values_of ss s c) _ (outside_values on ss s c) (λ vs j. refl)) k
 
-  arms_told : (arms : Arms) (line n k m : ℕ) (path : List PathStep) (other : Site → Run) (g : ℕ → List PathStep → Site → Cells → List Group) (s : Site) → are_arms_sequential arms ≡ true
-      → ((j : ℕ) (steps : List PathStep) (c : Cells) → ToldBy (other s) c (g j steps s c)) → (c : Cells) → ToldBy (run_arms arms line m other s) c (groups_of_arms line n k m path arms g s c)
-  arms_told no_arms line n k m path other g s q h c d i = in_arm_told m (other s) c (g k (path ++ Arm n m ∷ []) s c) (h k (path ++ Arm n m ∷ []) c) d i
-  arms_told (arm test body arms) line n k m path other g s q h c d i =
-      let a = and_parts (are_sequential body) (are_arms_sequential arms) q in
-      let t : Traced Cause Bool = holds test s c in
-      test_told s c line m t.log t.out (λ b. choice b (in_arm m (run_all body s)) (run_arms arms line (m + 1) other s) c) (condition_reads (scope_at s) line (test_path path n m) test)
-      (λ b. if b then groups_of_all k (path ++ Arm n m ∷ []) body s c else groups_of_arms line n (k + statements_count body) (m + 1) path arms g s c)
-      (λ b j. condition_touches test s c line (test_path path n m) b j)
-      (λ b j f u. by_choice b (in_arm m (run_all body s)) (run_arms arms line (m + 1) other s) c (groups_of_all k (path ++ Arm n m ∷ []) body s c) (groups_of_arms line n (k + statements_count body) (m + 1) path arms g s c)
-      (in_arm_told m (run_all body s) c (groups_of_all k (path ++ Arm n m ∷ []) body s c) (λ v w. all_told body k (path ++ Arm n m ∷ []) s a.0 c v w))
-      (λ v w. arms_told arms line n (k + statements_count body) (m + 1) path other g s a.1 h c v w) f u) d i
+outside_condition : (on : List ℕ → Bool) (a : Condition) (s : Site) (c : Cells) → Outside on (holds a s c)
+outside_condition on (relation op a b) s c = outside_then on (value_of a s c) _ (outside_value on a s c) (λ v. outside_then on (value_of b s c) _ (outside_value on b s c) (λ u j. refl))
+outside_condition on (negation a) s c = outside_then on (holds a s c) _ (outside_condition on a s c) (λ v j. refl)
+outside_condition on (conjunction a b) s c = outside_then on (holds a s c) _ (outside_condition on a s c) (λ v. outside_then on (holds b s c) _ (outside_condition on b s c) (λ u j. refl))
+outside_condition on (disjunction a b) s c = outside_then on (holds a s c) _ (outside_condition on a s c) (λ v. outside_then on (holds b s c) _ (outside_condition on b s c) (λ u j. refl))
+
+outside_step : (on : List ℕ → Bool) (o : Option Expression) (s : Site) (c : Cells) → Outside on (step_value o s c)
+outside_step on None s c k = refl
+outside_step on (Some a) s c k = outside_value on a s c k
+
+outside_count : (on : List ℕ → Bool) (x y z : ℤ) → Outside on (turns_by x y z)
+outside_count on x y z k = by_test (int_eq z (pos 0))
+  where
+    some_turns : IterationCount
+    some_turns = record { first = x; last = y; step = z; count = clipped (int_div ((y -ℤ x) +ℤ z) z) }
+
+    by_test : (b : Bool) → right_touches_in on k (if b then lift {X = Cause} {A = IterationCount} (Err ZeroDivisor) else pure some_turns).log ≡ []
+    by_test true = refl
+    by_test false = refl
+
+outside_bounds : (on : List ℕ → Bool) (first last : Expression) (step : Option Expression) (s : Site) (c : Cells) → Outside on (turns_of first last step s c)
+outside_bounds on first last step s c =
+    outside_then on (value_of first s c) _ (outside_value on first s c)
+    (λ v. outside_then on (value_of last s c) _ (outside_value on last s c) (λ u. outside_then on (step_value step s c) _ (outside_step on step s c) (λ t. outside_count on (whole_number v) (whole_number u) (whole_number t))))
+
+outside_push : {X A : Type 0} (on : List ℕ → Bool) (s : Site) (x : List ℕ) (old : Option Value) (t : Traced X A) → Outside on t → Outside on (after_push s x old t)
+outside_push on s x old t h k = by_test (s.pushed x)
+  where
+    by_test : (b : Bool) → right_touches_in on k (if b then after (single (pushes (with_tangent 0 old))) t else t).log ≡ []
+    by_test true = h k
+    by_test false = h k
+
+outside_put : (on : List ℕ → Bool) (s : Site) (c : Cells) (x : List ℕ) (v : Value) (o : Option ℕ) → Outside on (put s c x v o)
+outside_put on s c x v None k = refl
+outside_put on s c x v (Some p) k =
+    let t : Traced Cause Cells = store_at c p (as_kind (kind_of s x) v) in
+    outside_touch on s x p Write (after_push s x (content c p) t) (outside_push on s x (content c p) t (λ j. refl)) k
+
+outside_increment : (on : List ℕ → Bool) (s : Site) (c : Cells) (x : List ℕ) (n : AccessKind) (ds : List (Bool × Dual)) (o : Option ℕ) → Outside on (increment_place s c x n ds o)
+outside_increment on s c x n ds None k = refl
+outside_increment on s c x n ds (Some p) k = by_cell (content c p)
+  where
+    by_cell : (o : Option Value) → right_touches_in on k (increment_cell s c x n ds p o).log ≡ []
+    by_cell None = refl
+    by_cell (Some v) = outside_touch on s x p n (store_at c p (Ring (incremented_dual ds (as_dual v)))) (λ j. refl) k
+
+if_touches : (b : Bool) (s : Site) (c : Cells) (k : ℕ) (ts us : List Touch) (os : List Occurrence) → map Some ts ≡ map (touch_of s c k) os → us ≡ [] → map Some (if b then ts else us) ≡ map (touch_of s c k) (if b then os else [])
+if_touches true s c k ts us os h g = h
+if_touches false s c k ts us os h g = ap (map Some) g
+
+-- of a right side, and then nothing
+right_first : {A : Type 0} (on : List ℕ → Bool) (s : Site) (c : Cells) (x : List ℕ) (l : Log) (r : Result A Cause) (f : A → Traced Cause Cells) (os : List Occurrence) → ((a : A) → r ≡ Ok a → AreTouches s c l os) → IsOutside on l → ((a : A) → Outside on (f a))
+    → (d : Cells) → (continuation (within (right_side x) l) r f).out ≡ Ok d → (k : ℕ) → map Some (right_touches_in on k (continuation (within (right_side x) l) r f).log) ≡ map (touch_of s c k) (if on x then os else [])
+right_first on s c x l (Ok a) f os h o g d e k =
+    ap (map Some) (ap (λ (ts : List Touch). (if on x then touches_in k l else right_touches_in on k l) ++ ts) (g a k) ∙ append_nil (if on x then touches_in k l else right_touches_in on k l))
+    ∙ if_touches (on x) s c k (touches_in k l) (right_touches_in on k l) os (h a refl k) (o k)
+right_first on s c x l (Err y) f os h o g d e k = cc
+
+outside_terms : (on : List ℕ → Bool) (rs : List Signed) (s : Site) (c : Cells) → Outside on (terms_of rs s c)
+outside_terms on [] s c k = refl
+outside_terms on (r ∷ rs) s c k = outside_then on (value_of r.1 s c) _ (outside_value on r.1 s c) (λ v. outside_then on (terms_of rs s c) _ (outside_terms on rs s c) (λ ds j. refl)) k
+
+right_assigned : (on : List ℕ → Bool) (s : Site) (c d : Cells) (line : ℕ) (path : List PathStep) (atomic : Bool) (p : Designator) (e : Expression) (o : Option (List Signed)) → (assignment_by s c atomic p e o).out ≡ Ok d
+    → (k : ℕ) → map Some (right_touches_in on k (assignment_by s c atomic p e o).log) ≡ map (touch_of s c k) (if on p.name then right_accesses (scope_at s) line path e o else [])
+right_assigned on s c d line path atomic p e None h k =
+    right_first on s c p.name (value_of e s c).log (value_of e s c).out (λ v. values_of p.subscripts s c >>= (λ vs. put s c p.name v (place_of s p.name (whole_numbers vs)))) (reads (scope_at s) line path e)
+    (value_touches e s c line path) (outside_value on e s c)
+    (λ v. outside_then on (values_of p.subscripts s c) _ (outside_values on p.subscripts s c) (λ vs. outside_put on s c p.name v (place_of s p.name (whole_numbers vs)))) d h k
+right_assigned on s c d line path atomic p e (Some rs) h k =
+    let n : AccessKind = increment_kind atomic (s.pluses p.name) in
+    right_first on s c p.name (terms_of rs s c).log (terms_of rs s c).out (λ ds. values_of p.subscripts s c >>= (λ vs. increment_place s c p.name n ds (place_of s p.name (whole_numbers vs)))) (term_reads (scope_at s) line path rs)
+    (terms_touch rs s c line path) (outside_terms on rs s c)
+    (λ ds. outside_then on (values_of p.subscripts s c) _ (outside_values on p.subscripts s c) (λ vs. outside_increment on s c p.name n ds (place_of s p.name (whole_numbers vs)))) d h k
+
+none_right : (on : List ℕ → Bool) (s : Site) (c : Cells) (k : ℕ) (ts : List Touch) → ts ≡ [] → map Some ts ≡ map (touch_of s c k) (if on [] then [] else [])
+none_right on s c k ts h = ap (map Some) h ∙ by_test (on [])
+  where
+    by_test : (b : Bool) → [] ≡ map (touch_of s c k) (if b then [] else [])
+    by_test true = refl
+    by_test false = refl
+
+right_reading : (on : List ℕ → Bool) → Reading (right_touches_in on) (right_of on)
+right_reading on = record {
+  nothing = λ k. refl;
+  pair = λ k a b. refl;
+  stores = λ k p v. refl;
+  words = λ k v. refl;
+  instances = λ k a. refl;
+  conditions = λ k m a. refl;
+  arms = λ k m a. refl;
+  turnings = λ k j a. refl;
+  iterates = λ i k a. refl;
+  assignments = λ s c d line atomic p e n path h k.
+      let q = of_line line (assignment_by s c atomic p e (increment_terms s.ring p e)) d h in
+      ap (λ (l : Log). map Some (right_touches_in on k l)) q.1 ∙ right_assigned on s c d line path atomic p e (increment_terms s.ring p e) q.0 k;
+  tests = λ s c line path test b h k. none_right on s c k (right_touches_in on k (holds test s c).log) (outside_condition on test s c k);
+  bounds = λ s c line path first last step t h k. none_right on s c k (right_touches_in on k (turns_of first last step s c).log) (outside_bounds on first last step s c k);
+}
 
 -- ---- each group stands among the accesses
 
@@ -226,11 +496,11 @@ piece_wider os more before after ps e h = record {
 
 pieces_wider : (os more before after : List Occurrence) (gs : List Group) → more ≡ before ++ (os ++ after) → ArePieces os gs → ArePieces more gs
 pieces_wider os more before after [] e h = tt
-pieces_wider os more before after (g ∷ gs) e h = (piece_wider os more before after g.accesses e h.0, pieces_wider os more before after gs e h.1)
+pieces_wider os more before after (g ∷ gs) e h = (piece_wider os more before after g.accesses e h.0, h.1, pieces_wider os more before after gs e h.2)
 
 pieces_append : (os : List Occurrence) (gs hs : List Group) → ArePieces os gs → ArePieces os hs → ArePieces os (gs ++ hs)
 pieces_append os [] hs h k = k
-pieces_append os (g ∷ gs) hs h k = (h.0, pieces_append os gs hs h.1 k)
+pieces_append os (g ∷ gs) hs h k = (h.0, h.1, pieces_append os gs hs h.2 k)
 
 pieces_from : {X A : Type 0} (os : List Occurrence) (r : Result A X) (f : A → List Group) → ((a : A) → ArePieces os (f a)) → ArePieces os (groups_from r f)
 pieces_from os (Ok a) f h = h a
@@ -256,9 +526,18 @@ last_whole a b = ap (λ (xs : List Occurrence). a ++ xs) (sym (append_nil b))
 rest_whole : (a b rest : List Occurrence) → a ++ (b ++ rest) ≡ (a ++ b) ++ (rest ++ [])
 rest_whole a b rest = ap (λ (xs : List Occurrence). a ++ (b ++ xs)) (sym (append_nil rest)) ∙ simp append_assoc
 
+no_piece : (os : List Occurrence) → IsPiece os []
+no_piece os = record { before = []; after = os; whole = refl }
+
+-- the right side comes first
+right_piece : (s : Site) (line : ℕ) (path : List PathStep) (atomic : Bool) (p : Designator) (e : Expression) (o : Option (List Signed)) → IsPiece (assignment_accesses (scope_at s) line path atomic p e o) (right_accesses (scope_at s) line path e o)
+right_piece s line path atomic p e None = record { before = []; after = reads_all (scope_at s) line path p.subscripts ++ access (scope_at s) line path Write p; whole = refl }
+right_piece s line path atomic p e (Some rs) =
+    record { before = []; after = reads_all (scope_at s) line path p.subscripts ++ access (scope_at s) line path (increment_kind atomic (s.pluses p.name)) p; whole = refl }
+
 mutual
   pieces : (x : Statement) (n : ℕ) (path : List PathStep) (s : Site) (c : Cells) → ArePieces (accesses (scope_at s) n path x) (groups_of n path x s c)
-  pieces (assignment line atomic p e) n path s c = (piece_itself (accesses (scope_at s) n path (assignment line atomic p e)), tt)
+  pieces (assignment line atomic p e) n path s c = (piece_itself (accesses (scope_at s) n path (assignment line atomic p e)), right_piece s line path atomic p e (increment_terms s.ring p e), tt)
   pieces (branch line arms other) n path s c =
       arms_pieces arms line n (n + 1) 0 path (λ k steps. groups_of_all k steps other) (λ k steps. accesses_all (scope_at s) k steps other) s (λ k steps b. all_pieces other k steps s b) c
   pieces (loop line number directive var first last step body) n path s c =
@@ -268,6 +547,7 @@ mutual
       let inner : List Occurrence = accesses_all (scope_at s) (n + 1) (path ++ Body n ∷ []) body in
       let all : List Occurrence = f ++ (l ++ (u ++ inner)) in (
         record { before = []; after = inner; whole = bounds_whole f l u inner },
+        no_piece (f ++ (l ++ u)),
         pieces_from all (turns_of first last step s c).out
             (λ t. groups_of_turns t.count (one_turn s var t (run_all body)) (λ k a. groups_of_all (n + 1) (path ++ Body n ∷ []) body (in_turn s var) (cells_with s var (value_at t k) a)) c)
             (λ t. pieces_of_turns all t.count (one_turn s var t (run_all body)) (λ k a. groups_of_all (n + 1) (path ++ Body n ∷ []) body (in_turn s var) (cells_with s var (value_at t k) a))
@@ -294,42 +574,20 @@ mutual
       let here : List Group = groups_of_all k (path ++ Arm n m ∷ []) body s c in
       let there : List Group = groups_of_arms line n (k + statements_count body) (m + 1) path arms g s c in (
         record { before = []; after = b ++ rest; whole = refl },
+        no_piece a,
         pieces_from (a ++ (b ++ rest)) (holds test s c).out (λ t. if t then here else there)
             (λ t. if_pieces (a ++ (b ++ rest)) t here there (pieces_wider b (a ++ (b ++ rest)) a rest here refl (all_pieces body k (path ++ Arm n m ∷ []) s c))
             (pieces_wider rest (a ++ (b ++ rest)) (a ++ b) [] there (rest_whole a b rest) (arms_pieces arms line n (k + statements_count body) (m + 1) path g o s h c))),
       )
 
 pub runs_touch : RunsTouch
-unfolding Told
-runs_touch n path body q s c = record { touches = λ d e k. all_told body n path s q c d e k; groups = all_pieces body n path s c }
-
--- ---- iterations
-
-inner_same : (body : Statements) (s : Site) (c : Cells) → run_inner body s c ≡ run_all (inner_body body) s c
-inner_same no_statements s c = refl
-inner_same (statement (assignment line atomic p e) bs) s c = refl
-inner_same (statement (branch line arms other) bs) s c = refl
-inner_same (statement (loop line number directive var first last step body) bs) s c = refl
-
-body_told : (b : Bool) (body : Statements) (s : Site) → are_sequential (if b then inner_body body else body) ≡ true → (c : Cells)
-    → ToldBy ((if b then run_inner body else run_all body) s) c (groups_of_all 1 [] (if b then inner_body body else body) s c)
-body_told true body s q c =
-    subst (λ (t : Traced TrapAt Cells). (d : Cells) → t.out ≡ Ok d → Told t.log (groups_of_all 1 [] (inner_body body) s c)) (sym (inner_same body s c)) (all_told (inner_body body) 1 [] s q c)
-body_told false body s q c = all_told body 1 [] s q c
-
-iteration_told : (s : Site) (l : ParallelLoop) (hs : Heads) (k : ℕ) → are_sequential (iteration_body l.directive l.body) ≡ true → (c d : Cells) → (iteration_of s l hs k c).out ≡ Ok d → (i : ℕ)
-    → AreGroupTouches i k (iteration_of s l hs k c).log (groups_of_iteration s l hs k c)
-unfolding Told
-iteration_told s l hs k q c d e i =
-    let names : List (List ℕ) = private_names s l.directive l.var l.body in
-    let here : Site = in_iteration s l.directive l.var l.body in
-    let a : Cells = with_all_unset s names c in
-    let f : Run = (if is_nest l.directive l.body then run_inner l.body else run_all l.body) here in
-    let gs : List Group = groups_of_iteration s l hs k c in
-    let t : Traced TrapAt Cells = with_variables s hs k f a in
-    continuation_quiet (both (unset_log s names) t.log) t.out (λ b. with_log (private_words s l.body names b) b) gs
-    (λ b j. after_quiet (unset_log s names) t.log gs (unset_quiet s names) (variables_told s hs k f a gs (body_told (is_nest l.directive l.body) l.body here q (cells_with_heads s hs k a)) b j))
-    (λ b. words_quiet s l.body names b) d e k
+runs_touch n path body q s c = record {
+  touches = λ d e k. record {
+    all = run_read touches_in (λ g. g.accesses) all_reading body n path s q c d e k;
+    right_sides = λ on. run_read (right_touches_in on) (right_of on) (right_reading on) body n path s q c d e k;
+  };
+  groups = all_pieces body n path s c;
+}
 
 -- what makes touches in an iteration is what makes accesses in the loop
 scopes_agree : (decls : List Decl) (s : Site) (l : ParallelLoop) → s.outer ≡ l.outer → s.ring ≡ is_ring_name decls → scope_at (in_iteration s l.directive l.var l.body) ≡ scope_of decls l
@@ -341,7 +599,10 @@ scopes_agree decls s l e f =
 
 pub iterations_touch : IterationsTouch
 iterations_touch decls s l e f q hs k c = record {
-  touches = λ d g i. iteration_told s l hs k q c d g i;
+  touches = λ d g i. record {
+    all = iteration_read touches_in (λ g. g.accesses) all_reading s l hs k q c d g i;
+    right_sides = λ on. iteration_read (right_touches_in on) (right_of on) (right_reading on) s l hs k q c d g i;
+  };
   groups = subst (λ (u : Scope). ArePieces (accesses_all u 1 [] (iteration_body l.directive l.body)) (groups_of_iteration s l hs k c)) (scopes_agree decls s l e f)
       (all_pieces (iteration_body l.directive l.body) 1 [] (in_iteration s l.directive l.var l.body) (iteration_cells s l.directive l.var l.body hs k c));
 }

@@ -104,7 +104,7 @@ place_touches s cells line path p None h v e = cc
 place_touches s cells line path p (Some q) h v e = cell_touches s cells line path p q (content cells q) h v e
 
 mutual
-  value_touches : (a : Expression) (s : Site) (cells : Cells) (line : ℕ) (path : List PathStep) → Touching s cells (value_of a s cells) (reads (scope_at s) line path a)
+  pub value_touches : (a : Expression) (s : Site) (cells : Cells) (line : ℕ) (path : List PathStep) → Touching s cells (value_of a s cells) (reads (scope_at s) line path a)
   value_touches (literal n kind) s cells line path = λ v e k. refl
   value_touches (get x ss) s cells line path =
       let p : Designator = record { name = x; subscripts = ss } in
@@ -158,7 +158,7 @@ plain_touches s cells line path p a =
     (λ v h. then_touching s cells (values_of p.subscripts s cells) _ (reads_all (scope_at s) line path p.subscripts) (access (scope_at s) line path Write p) (values_touch p.subscripts s cells line path)
     (λ vs g. put_touches s cells line path p v (place_of s p.name (whole_numbers vs)) (found_place s cells p vs (place_of s p.name (whole_numbers vs)) g refl)))
 
-terms_touch : (rs : List Signed) (s : Site) (cells : Cells) (line : ℕ) (path : List PathStep) → Touching s cells (terms_of rs s cells) (term_reads (scope_at s) line path rs)
+pub terms_touch : (rs : List Signed) (s : Site) (cells : Cells) (line : ℕ) (path : List PathStep) → Touching s cells (terms_of rs s cells) (term_reads (scope_at s) line path rs)
 terms_touch [] s cells line path = λ ds e k. refl
 terms_touch (r ∷ rs) s cells line path =
     then_touching s cells (value_of r.1 s cells) _ (reads (scope_at s) line path r.1) (term_reads (scope_at s) line path rs) (value_touches r.1 s cells line path)
