@@ -39,3 +39,4 @@ pub mod Entries
 pub mod NamesOfKinds
 pub mod Laying
 pub mod GroupTouching
+pub mod Layouts
