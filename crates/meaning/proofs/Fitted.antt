@@ -1,5 +1,5 @@
 -- Small programs whose trees and cells fit, so that the laws of fitting apply to them, and trees that don't fit.
-use Rattle.std.specs.Prelude.{◌≡◌, ℕ, Bool, true, false, ◌&&◌, nat_lt, List, [], ◌∷◌, map, Option, Some, None, Ok, refl, codes}
+use Rattle.std.specs.Prelude.{◌≡◌, ℕ, pos, Bool, true, false, ◌&&◌, nat_lt, bytes_eq, List, [], ◌∷◌, ◌++◌, map, Option, Some, None, Ok, refl, codes}
 use Rattle.std.proofs.Common.{arith}
 use Rattle.std.proofs.lemmas.Bool.{and_parts}
 use Rattle.std.proofs.lemmas.Bool.Decides.{nat_tests}
@@ -17,15 +17,18 @@ use Rattle.fl_ast.specs.declared.directive.Directive.{Directive}
 use Rattle.fl_ast.specs.Tree.{binary, call, no_expressions, expression, relation, Statement, branch, loop, Statements, no_statements, statement, no_arms, arm}
 use Rattle.fl_types.specs.declared.access.AccessKind.TheVariants.{Read, Update}
 use Rattle.fl_types.specs.Kinds.{are_well_kinded_statements, declared_names}
+use Rattle.fl_types.specs.Sharing.{ParallelLoop}
 use Rattle.fl_types.specs.Accesses.{accesses}
 use Rattle.store_core.specs.declared.layout.Shape.{Shape}
 use Rattle.meaning.specs.declared.value.Value.{Value}
 use Rattle.meaning.specs.declared.value.Value.TheVariants.{Index, Ring}
 use Rattle.meaning.specs.Logs.{Touch}
 use Rattle.meaning.specs.Sites.{Key, Cells, Site, in_iteration, kind_of, opening_site}
-use Rattle.meaning.specs.Statements.{run, run_all}
+use Rattle.meaning.specs.Statements.{Heads, run, run_all}
 use Rattle.meaning.specs.Fitting.{names_at, HasKind, CellsFit, Fits, IsWellKinded}
-use Rattle.meaning.specs.Touches.{touches_in, touch_of, scope_at}
+use Rattle.meaning.specs.Touches.{touches_in, right_touches_in, touch_of, scope_at}
+use Rattle.meaning.specs.Groups.{touches_of_groups, iteration_of, groups_of_iteration, IterationTouches}
+use Rattle.meaning.proofs.GroupTouching.{iterations_touch}
 use Rattle.meaning.specs.Reached.{HoldsAtAll, IsSound}
 use Rattle.meaning.specs.Frame.{content_by_name}
 use Rattle.meaning.proofs.FittingProofs.{runs_fitting}
@@ -191,6 +194,43 @@ sum_touches = refl
 pub sum_accesses : map (touch_of inside_loop step_cells 0) (accesses (scope_at inside_loop) 1 [] sum_step) ≡ Some (touch 5 Read) ∷ Some (touch 1 Read) ∷ Some (touch 3 Update) ∷ []
 unfolding exact_index
 sum_accesses = refl
+
+-- the reads that are differentiated, where s is active, and where it isn't
+pub sum_right_touches : right_touches_in (λ z. bytes_eq z s) 0 (run sum_step inside_loop step_cells).log ≡ touch 5 Read ∷ touch 1 Read ∷ []
+unfolding exact_index
+sum_right_touches = refl
+
+pub sum_no_right_touches : right_touches_in (λ z. bytes_eq z x) 0 (run sum_step inside_loop step_cells).log ≡ []
+unfolding exact_index
+sum_no_right_touches = refl
+
+-- the first iteration of `sums`: the bounds of the inner loop, and twice the condition and the increment
+abbrev sums_loop : ParallelLoop
+sums_loop = record {
+  line = 5;
+  number = 1;
+  outer = [];
+  directive = reducing;
+  var = i;
+  body = only (loop 6 2 None j (name i) (name n) None (only (branch 7 (arm (relation Gt (at c (name i)) (one 1)) (only sum_step) no_arms) no_statements)));
+}
+
+abbrev heads : Heads
+heads = (i, record { first = pos 1; last = pos 2; step = pos 1; count = 2 }) ∷ []
+
+abbrev turn_touches : ℕ → List Touch
+turn_touches p = touch 1 Read ∷ touch p Read ∷ touch 1 Read ∷ touch 3 Update ∷ []
+
+pub iteration_touches : touches_in 0 (iteration_of site sums_loop heads 0 cells).log ≡ touch 0 Read ∷ (turn_touches 4 ++ turn_touches 5)
+unfolding exact_index
+iteration_touches = refl
+
+pub iteration_groups : touches_of_groups (λ g. g.accesses) 0 (groups_of_iteration site sums_loop heads 0 cells) ≡ map Some (touch 0 Read ∷ (turn_touches 4 ++ turn_touches 5))
+unfolding exact_index
+iteration_groups = refl
+
+pub iteration_law : IterationTouches decls site sums_loop heads 0 cells
+iteration_law = iterations_touch decls site sums_loop refl refl refl heads 0 cells
 
 -- ---- an array without elements stands with its subscripts; its names aren't missing
 

@@ -110,7 +110,7 @@ scalar_placed x (e ∷ es) h g = by_test (bytes_eq x e.name) refl g (λ i. scala
 
 -- ---- with places for the names that have none
 
-is_there : List ℕ → List Shape → Bool
+unfoldable pub is_there : List ℕ → List Shape → Bool
 is_there x es = list_any (λ (e : Shape). bytes_eq x e.name) es
 
 any_append_left : (x : List ℕ) (es fs : List Shape) → is_there x es ≡ true → is_there x (es ++ fs) ≡ true
@@ -168,20 +168,20 @@ ranked_laid x n es y h = by_test (list_any (λ (e : Shape). bytes_eq y e.name) e
     by_test true f = h
     by_test false f = record { all = all_last x n es (scalar y) h.all (scalar_has x y n (apart f)); arrays = λ e. any_append_left x es (scalar y ∷ []) (h.arrays e) }
 
-there_laid : (x : List ℕ) (es : List Shape) (y : List ℕ) → is_there x es ≡ true → is_there x (laid es (scalar y)) ≡ true
-there_laid x es y h = by_test (list_any (λ (e : Shape). bytes_eq y e.name) es)
+pub there_laid : (x : List ℕ) (es : List Shape) (t : Shape) → is_there x es ≡ true → is_there x (laid es t) ≡ true
+there_laid x es t h = by_test (list_any (λ (e : Shape). bytes_eq t.name e.name) es)
   where
-    by_test : (b : Bool) → is_there x (cond b es (es ++ scalar y ∷ [])) ≡ true
+    by_test : (b : Bool) → is_there x (cond b es (es ++ t ∷ [])) ≡ true
     by_test true = h
-    by_test false = any_append_left x es (scalar y ∷ []) h
+    by_test false = any_append_left x es (t ∷ []) h
 
-itself_laid : (x : List ℕ) (es : List Shape) (y : List ℕ) → bytes_eq x y ≡ true → is_there x (laid es (scalar y)) ≡ true
+pub itself_laid : (x : List ℕ) (es : List Shape) (t : Shape) → bytes_eq x t.name ≡ true → is_there x (laid es t) ≡ true
 unfolding is_there
-itself_laid x es y h = by_test (list_any (λ (e : Shape). bytes_eq y e.name) es) refl
+itself_laid x es t h = by_test (list_any (λ (e : Shape). bytes_eq t.name e.name) es) refl
   where
-    by_test : (b : Bool) → list_any (λ (e : Shape). bytes_eq y e.name) es ≡ b → list_any (λ (e : Shape). bytes_eq x e.name) (cond b es (es ++ scalar y ∷ [])) ≡ true
-    by_test true f = subst (λ (z : List ℕ). list_any (λ (e : Shape). bytes_eq z e.name) es ≡ true) (sym ((bytes_eq-Decides x y).0 h)) f
-    by_test false f = any_last x es (scalar y) h
+    by_test : (b : Bool) → list_any (λ (e : Shape). bytes_eq t.name e.name) es ≡ b → list_any (λ (e : Shape). bytes_eq x e.name) (cond b es (es ++ t ∷ [])) ≡ true
+    by_test true f = subst (λ (z : List ℕ). list_any (λ (e : Shape). bytes_eq z e.name) es ≡ true) (sym ((bytes_eq-Decides x t.name).0 h)) f
+    by_test false f = any_last x es (t) h
 
 ranked_all : (x : List ℕ) (n : ℕ) (decls : List Decl) (es : List Shape) → Ranked x n es → Ranked x n (with_scalars es decls)
 ranked_all x n [] es h = h
@@ -189,7 +189,7 @@ ranked_all x n (d ∷ decls) es h = ranked_all x n decls (laid es (scalar d.name
 
 there_all : (x : List ℕ) (decls : List Decl) (es : List Shape) → is_there x es ≡ true → is_there x (with_scalars es decls) ≡ true
 there_all x [] es h = h
-there_all x (d ∷ decls) es h = there_all x decls (laid es (scalar d.name)) (there_laid x es d.name h)
+there_all x (d ∷ decls) es h = there_all x decls (laid es (scalar d.name)) (there_laid x es (scalar d.name) h)
 
 declared_there : (x : List ℕ) (n : ℕ) (decls : List Decl) (es : List Shape) → has_declared_rank decls x n ≡ true → is_there x (with_scalars es decls) ≡ true
 declared_there x n [] es h = cc
@@ -197,7 +197,7 @@ declared_there x n (d ∷ decls) es h = by_test (bytes_eq x d.name) (nat_eq (len
   where
     by_test : (a b : Bool) → bytes_eq x d.name ≡ a → ((a && b) || has_declared_rank decls x n) ≡ true → (has_declared_rank decls x n ≡ true → is_there x (with_scalars (laid es (scalar d.name)) decls) ≡ true)
         → is_there x (with_scalars (laid es (scalar d.name)) decls) ≡ true
-    by_test true b e f g = there_all x decls (laid es (scalar d.name)) (itself_laid x es d.name e)
+    by_test true b e f g = there_all x decls (laid es (scalar d.name)) (itself_laid x es (scalar d.name) e)
     by_test false b e f g = g f
 
 -- ---- what the shapes of a layout have

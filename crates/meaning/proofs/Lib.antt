@@ -38,4 +38,8 @@ mod Fitted
 pub mod Entries
 pub mod NamesOfKinds
 pub mod Laying
+pub mod GroupReadings
+pub mod RightSides
+pub mod GroupPieces
 pub mod GroupTouching
+pub mod Layouts

@@ -33,8 +33,8 @@ touches_append (pushes w ∷ es) fs = touches_append es fs
 touches_append (ends line ∷ es) fs = touches_append es fs
 touches_append (traps t ∷ es) fs = touches_append es fs
 
-abbrev pub IsQuiet : Log → Type 0
-IsQuiet l = (k : ℕ) → touches_in k l ≡ []
+abbrev pub IsUntouched : Log → Type 0
+IsUntouched l = (k : ℕ) → touches_in k l ≡ []
 
 both_touches : (s : Site) (cells : Cells) (l m : Log) (os ps : List Occurrence) → AreTouches s cells l os → AreTouches s cells m ps → AreTouches s cells (both l m) (os ++ ps)
 both_touches s cells l m os ps h g k =
@@ -45,7 +45,7 @@ both_touches s cells l m os ps h g k =
     ∙ sym (map-append (touch_of s cells k) os ps))))
 
 -- before a log without touches
-before_quiet : (s : Site) (cells : Cells) (l m : Log) (os : List Occurrence) → AreTouches s cells l os → IsQuiet m → AreTouches s cells (both l m) os
+before_quiet : (s : Site) (cells : Cells) (l m : Log) (os : List Occurrence) → AreTouches s cells l os → IsUntouched m → AreTouches s cells (both l m) os
 before_quiet s cells l m os h q k =
     ap (map Some) (touches_append (events_in k l) (events_in k m) ∙ (ap (λ (ts : List Touch). touches_in k l ++ ts) (q k) ∙ append_nil (touches_in k l))) ∙ h k
   where
@@ -67,17 +67,17 @@ then_touching : {X A B : Type 0} (s : Site) (cells : Cells) (t : Traced X A) (f 
 then_touching s cells t f os ps h g = joined_touching s cells t.log t.out f os ps h g
 
 joined_quiet : {X A B : Type 0} (s : Site) (cells : Cells) (l : Log) (r : Result A X) (f : A → Traced X B) (os : List Occurrence)
-    → ((a : A) → r ≡ Ok a → AreTouches s cells l os) → ((a : A) → IsQuiet (f a).log) → Touching s cells (continuation l r f) os
+    → ((a : A) → r ≡ Ok a → AreTouches s cells l os) → ((a : A) → IsUntouched (f a).log) → Touching s cells (continuation l r f) os
 joined_quiet s cells l (Ok a) f os h g b e = before_quiet s cells l (f a).log os (h a refl) (g a)
 joined_quiet s cells l (Err x) f os h g b e = cc
 
 -- and then nothing is touched
-then_quiet : {X A B : Type 0} (s : Site) (cells : Cells) (t : Traced X A) (f : A → Traced X B) (os : List Occurrence) → Touching s cells t os → ((a : A) → IsQuiet (f a).log) → Touching s cells (t >>= f) os
+then_quiet : {X A B : Type 0} (s : Site) (cells : Cells) (t : Traced X A) (f : A → Traced X B) (os : List Occurrence) → Touching s cells t os → ((a : A) → IsUntouched (f a).log) → Touching s cells (t >>= f) os
 then_quiet s cells t f os h g = joined_quiet s cells t.log t.out f os h g
 
 -- an access, in whose touch the place stands that was found
 touching_touches : {X A : Type 0} (s : Site) (cells : Cells) (line : ℕ) (path : List PathStep) (kind : AccessKind) (p : Designator) (q : ℕ) (t : Traced X A)
-    → IsQuiet t.log → designated_place s cells p ≡ Some q → AreTouches s cells (after_touch s p.name q kind t).log (access (scope_at s) line path kind p)
+    → IsUntouched t.log → designated_place s cells p ≡ Some q → AreTouches s cells (after_touch s p.name q kind t).log (access (scope_at s) line path kind p)
 touching_touches s cells line path kind p q t h e k = by_test (s.accessed p.name)
   where
     occurrence : Occurrence
@@ -104,7 +104,7 @@ place_touches s cells line path p None h v e = cc
 place_touches s cells line path p (Some q) h v e = cell_touches s cells line path p q (content cells q) h v e
 
 mutual
-  value_touches : (a : Expression) (s : Site) (cells : Cells) (line : ℕ) (path : List PathStep) → Touching s cells (value_of a s cells) (reads (scope_at s) line path a)
+  pub value_touches : (a : Expression) (s : Site) (cells : Cells) (line : ℕ) (path : List PathStep) → Touching s cells (value_of a s cells) (reads (scope_at s) line path a)
   value_touches (literal n kind) s cells line path = λ v e k. refl
   value_touches (get x ss) s cells line path =
       let p : Designator = record { name = x; subscripts = ss } in
@@ -137,7 +137,7 @@ condition_touches (disjunction a b) s cells line path =
 
 -- ---- assignments
 
-saving_quiet : {X A : Type 0} (s : Site) (x : List ℕ) (old : Option Value) (t : Traced X A) → IsQuiet t.log → IsQuiet (after_push s x old t).log
+saving_quiet : {X A : Type 0} (s : Site) (x : List ℕ) (old : Option Value) (t : Traced X A) → IsUntouched t.log → IsUntouched (after_push s x old t).log
 saving_quiet s x old t h k = by_test (s.pushed x)
   where
     by_test : (b : Bool) → touches_in k (if b then after (single (pushes (with_tangent 0 old))) t else t).log ≡ []
@@ -158,7 +158,7 @@ plain_touches s cells line path p a =
     (λ v h. then_touching s cells (values_of p.subscripts s cells) _ (reads_all (scope_at s) line path p.subscripts) (access (scope_at s) line path Write p) (values_touch p.subscripts s cells line path)
     (λ vs g. put_touches s cells line path p v (place_of s p.name (whole_numbers vs)) (found_place s cells p vs (place_of s p.name (whole_numbers vs)) g refl)))
 
-terms_touch : (rs : List Signed) (s : Site) (cells : Cells) (line : ℕ) (path : List PathStep) → Touching s cells (terms_of rs s cells) (term_reads (scope_at s) line path rs)
+pub terms_touch : (rs : List Signed) (s : Site) (cells : Cells) (line : ℕ) (path : List PathStep) → Touching s cells (terms_of rs s cells) (term_reads (scope_at s) line path rs)
 terms_touch [] s cells line path = λ ds e k. refl
 terms_touch (r ∷ rs) s cells line path =
     then_touching s cells (value_of r.1 s cells) _ (reads (scope_at s) line path r.1) (term_reads (scope_at s) line path rs) (value_touches r.1 s cells line path)
@@ -195,7 +195,7 @@ line_touches s cells line t os h = line_by_touches s cells line t.log t.out os h
 
 -- ---- bounds
 
-by_turns_quiet : (x y z : ℤ) → IsQuiet (turns_by x y z).log
+by_turns_quiet : (x y z : ℤ) → IsUntouched (turns_by x y z).log
 by_turns_quiet x y z k = by_test (int_eq z (pos 0))
   where
     some_turns : IterationCount

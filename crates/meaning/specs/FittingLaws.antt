@@ -1,12 +1,15 @@
 -- Laws of fitting, and of touches.
-use Rattle.std.specs.Prelude.{◌≡◌, ℕ, ◌<◌, ◌^◌, Bool, true, ◌&&◌, ◌||◌, if◌then◌else◌, nat_eq, bytes_eq, List, All, length, Option, Some, slice_get, Ok}
+use Rattle.std.specs.Prelude.{◌≡◌, ℕ, ◌<◌, ◌^◌, Bool, true, not, ◌&&◌, ◌||◌, if◌then◌else◌, nat_eq, bytes_eq, List, [], ◌∷◌, All, length, Option, Some, slice_get, Ok}
 use Rattle.std.specs.List.{list_all, list_any}
 use Rattle.fl_ast.specs.declared.decl.Decl.{Decl}
-use Rattle.fl_ast.specs.Tree.{Expression, Condition, Statements, Subroutine}
+use Rattle.fl_ast.specs.declared.stmt.Program.{Program}
+use Rattle.fl_ast.specs.Tree.{Expression, Condition, Statements, Subroutine, stmt_trees, program_tree}
+use Rattle.fl_types.specs.Sharing.{has_name}
 use Rattle.fl_types.specs.declared.access.PathStep.{PathStep}
 use Rattle.fl_types.specs.Kinds.{Names, kind_of_expression, is_well_kinded, is_well_kinded_condition, is_index_expression, is_index_step, are_well_kinded_statements, declared_names}
 use Rattle.store_core.specs.declared.layout.Shape.{Shape}
-use Rattle.store_core.specs.Places.{is_empty}
+use Rattle.store_core.specs.declared.values.Entry.{Entry}
+use Rattle.store_core.specs.Places.{is_empty, shapes_of}
 use Rattle.meaning.specs.declared.value.Value.{Value}
 use Rattle.meaning.specs.declared.value.IterationCount.{IterationCount}
 use Rattle.meaning.specs.Sites.{Key, Cells, Site, opening_site}
@@ -79,6 +82,21 @@ abbrev pub EntriesAreKinded : Type 0
 EntriesAreKinded =
     (decls : List Decl) (shapes : List Shape) (pushed : List ℕ → Bool) → are_declared_shapes decls shapes ≡ true →
     (body : Statements) → are_well_kinded_statements (declared_names decls) body ≡ true → IsWellKinded (opening_site decls shapes pushed) body
+
+-- each name is declared once
+abbrev pub are_declared_once : List Decl → Bool
+are_declared_once [] = true
+are_declared_once (d ∷ ds) = not (list_any (λ (e : Decl). bytes_eq d.name e.name) ds) && are_declared_once ds
+
+-- an array is an argument
+abbrev pub is_argument_if_array : List (List ℕ) → Decl → Bool
+is_argument_if_array args d = is_empty d.dims || has_name d.name args
+
+-- so the body of a program with its layout, whatever the values in bounds
+abbrev pub ProgramsAreKinded : Type 0
+ProgramsAreKinded =
+    (p : Program) (values : List Entry) (pushed : List ℕ → Bool) → are_declared_once p.decls ≡ true → list_all (is_argument_if_array p.args) p.decls ≡ true →
+    are_well_kinded_statements (declared_names p.decls) (stmt_trees p.body) ≡ true → IsWellKinded (entry_site (program_tree p) (shapes_of p values) pushed) (stmt_trees p.body)
 
 abbrev pub TouchesAreAccesses : Type 0
 TouchesAreAccesses = (site : Site) (cells : Cells) (line : ℕ) (path : List PathStep) → GroupTouches site cells line path

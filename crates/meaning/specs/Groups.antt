@@ -1,28 +1,50 @@
 -- The groups of accesses that a run evaluates, in order. A group is what one path holds: an assignment, a condition, a loop's bounds.
-use Rattle.std.specs.Prelude.{◌≡◌, ℕ, zero, suc, ◌+◌, true, if◌then◌else◌, List, [], ◌∷◌, ◌++◌, map, flat_map, Option, Some, Result, Ok, Err}
+use Rattle.std.specs.Prelude.{◌≡◌, ℕ, zero, suc, ◌+◌, Bool, true, if◌then◌else◌, List, [], ◌∷◌, ◌++◌, map, flat_map, Option, Some, None, Result, Ok, Err}
 use Rattle.fl_ast.specs.declared.decl.Decl.{Decl}
-use Rattle.fl_ast.specs.Tree.{Statement, assignment, branch, loop, Statements, no_statements, statement, Arms, no_arms, arm}
+use Rattle.fl_ast.specs.Tree.{Expression, Designator, Statement, assignment, branch, loop, Statements, no_statements, statement, Arms, no_arms, arm}
 use Rattle.fl_types.specs.declared.access.PathStep.{PathStep}
 use Rattle.fl_types.specs.declared.access.PathStep.TheVariants.{Arm, Body}
 use Rattle.fl_types.specs.Sharing.{is_ring_name, ParallelLoop}
-use Rattle.fl_types.specs.Accesses.{Occurrence, loop_accesses, reads, step_reads, condition_reads, accesses, accesses_all, statement_count, statements_count, test_path}
+use Rattle.fl_types.specs.Increment.{Signed, increment_terms}
+use Rattle.fl_types.specs.Accesses.{Scope, Occurrence, loop_accesses, reads, term_reads, step_reads, condition_reads, accesses, accesses_all, statement_count, statements_count, test_path}
 use Rattle.fl_types.specs.Nests.{is_nest, iteration_body}
 use Rattle.meaning.specs.Logs.{Touch, Log}
 use Rattle.meaning.specs.Sites.{Cells, Site, in_turn, in_iteration}
 use Rattle.meaning.specs.Expressions.{holds}
 use Rattle.meaning.specs.Statements.{Run, turns_of, value_at, turns, one_turn, Heads, one_iteration, run, run_all, run_inner}
 use Rattle.meaning.specs.Sequential.{are_sequential}
-use Rattle.meaning.specs.Touches.{touches_in, scope_at, touch_of}
+use Rattle.meaning.specs.Touches.{touches_in, right_touches_in, scope_at, touch_of}
 use Rattle.meaning.specs.Reached.{cells_with, iteration_cells}
 
--- a group with where it stands and the cells in which it is evaluated
+-- a group with where it stands and the cells in which it is evaluated; of an assignment also the target, and the accesses on the right side
 pub record Group : Type 0 where
   pub site : Site
   pub cells : Cells
   pub accesses : List Occurrence
+  pub target : List ℕ
+  pub right : List Occurrence
 
+-- of a condition or bounds
 abbrev pub group_at : Site → Cells → List Occurrence → Group
-group_at site cells os = record { site = site; cells = cells; accesses = os }
+group_at site cells os = record { site = site; cells = cells; accesses = os; target = []; right = [] }
+
+-- on the right side of an assignment, or in the terms of an increment
+abbrev pub right_accesses : Scope → ℕ → List PathStep → Expression → Option (List Signed) → List Occurrence
+right_accesses scope line path e None = reads scope line path e
+right_accesses scope line path e (Some rest) = term_reads scope line path rest
+
+abbrev pub assignment_group : ℕ → List PathStep → Site → Cells → (line : ℕ) → (atomic : Bool) → Designator → Expression → Group
+assignment_group n path site cells line atomic p e = record {
+  site = site;
+  cells = cells;
+  accesses = accesses (scope_at site) n path (assignment line atomic p e);
+  target = p.name;
+  right = right_accesses (scope_at site) line path e (increment_terms site.ring p e);
+}
+
+-- the accesses of a group on the right side of an assignment to one of the names `on`
+abbrev pub right_of : (List ℕ → Bool) → Group → List Occurrence
+right_of on g = if on g.target then g.right else []
 
 -- the groups that follow where there is a result
 abbrev pub groups_from : {X A : Type 0} → Result A X → (A → List Group) → List Group
@@ -37,7 +59,7 @@ groups_of_turns (suc n) f g cells = groups_of_turns n f g cells ++ groups_from (
 -- of a statement with number n at a path
 abbrev mutual
   pub groups_of : ℕ → List PathStep → Statement → Site → Cells → List Group
-  groups_of n path (assignment line atomic p e) site cells = group_at site cells (accesses (scope_at site) n path (assignment line atomic p e)) ∷ []
+  groups_of n path (assignment line atomic p e) site cells = assignment_group n path site cells line atomic p e ∷ []
   groups_of n path (branch line arms other) site cells = groups_of_arms line n (n + 1) 0 path arms (λ k steps. groups_of_all k steps other) site cells
   groups_of n path (loop line number directive var first last step body) site cells =
       group_at site cells (reads (scope_at site) line path first ++ (reads (scope_at site) line path last ++ step_reads (scope_at site) line path step))
@@ -57,12 +79,14 @@ abbrev mutual
       ∷ groups_from (holds test site cells).out
       (λ b. if b then groups_of_all k (path ++ Arm n m ∷ []) body site cells else groups_of_arms line n (k + statements_count body) (m + 1) path arms other site cells)
 
--- the touches in iteration k of the groups' accesses, None where one has no place
-abbrev pub touches_of_groups : ℕ → List Group → List (Option Touch)
-touches_of_groups k gs = flat_map (λ (g : Group). map (touch_of g.site g.cells k) g.accesses) gs
+-- the touches in iteration k of accesses of the groups, None where one has no place
+abbrev pub touches_of_groups : (Group → List Occurrence) → ℕ → List Group → List (Option Touch)
+touches_of_groups part k gs = flat_map (λ (g : Group). map (touch_of g.site g.cells k) (part g)) gs
 
-abbrev pub AreGroupTouches : ℕ → ℕ → Log → List Group → Type 0
-AreGroupTouches i k l gs = map Some (touches_in i l) ≡ touches_of_groups k gs
+-- a log's touches are those of all accesses of the groups, and those in right sides of those on right sides
+pub record AreGroupTouches (i k : ℕ) (l : Log) (gs : List Group) : Type 0 where
+  pub all : map Some (touches_in i l) ≡ touches_of_groups (λ g. g.accesses) k gs
+  pub right_sides : (on : List ℕ → Bool) → map Some (right_touches_in on i l) ≡ touches_of_groups (right_of on) k gs
 
 -- a list stands in another as it is
 pub record IsPiece (os ps : List Occurrence) : Type 0 where
@@ -70,9 +94,10 @@ pub record IsPiece (os ps : List Occurrence) : Type 0 where
   pub after : List Occurrence
   pub whole : os ≡ before ++ (ps ++ after)
 
+-- each group's accesses stand among these, those on the right side first
 abbrev pub ArePieces : List Occurrence → List Group → Type 0
 ArePieces os [] = Unit {0}
-ArePieces os (g ∷ gs) = IsPiece os g.accesses × ArePieces os gs
+ArePieces os (g ∷ gs) = IsPiece os g.accesses × IsPiece g.accesses g.right × ArePieces os gs
 
 -- a run of statements without parallel loops touches what the groups that it evaluates access, in order; each group stands among the accesses of the statements
 pub record RunTouches (n : ℕ) (path : List PathStep) (body : Statements) (site : Site) (cells : Cells) : Type 0 where

@@ -1,5 +1,5 @@
 -- The touches among events, and those that accesses make.
-use Rattle.std.specs.Prelude.{◌≡◌, ℕ, Bool, List, [], ◌∷◌, ◌++◌, map, Option, Some, None, option_map, Result, Ok, Err}
+use Rattle.std.specs.Prelude.{◌≡◌, ℕ, Bool, false, if◌then◌else◌, List, [], ◌∷◌, ◌++◌, map, Option, Some, None, option_map, Result, Ok, Err}
 use Rattle.fl_ast.specs.Tree.{Expression, Designator, Condition, assignment}
 use Rattle.fl_types.specs.declared.access.PathStep.{PathStep}
 use Rattle.fl_types.specs.Accesses.{Scope, Occurrence, reads, step_reads, condition_reads, accesses}
@@ -7,7 +7,7 @@ use Rattle.meaning.specs.declared.value.Value.{Value}
 use Rattle.meaning.specs.declared.value.Cause.{Cause}
 use Rattle.meaning.specs.declared.value.IterationCount.{IterationCount}
 use Rattle.meaning.specs.Values.{whole_numbers}
-use Rattle.meaning.specs.Logs.{Touch, Event, begins, touches, pushes, ends, traps, Log, events_in}
+use Rattle.meaning.specs.Logs.{Touch, Event, begins, touches, pushes, ends, traps, Passage, instance, right_side, rounds, turn, iteration, condition, taken, iteration_in, Log, silence, single, touched, sets, both, within, events_in}
 use Rattle.meaning.specs.Sites.{Cells, Site, place_of}
 use Rattle.meaning.specs.Expressions.{values_of, holds}
 use Rattle.meaning.specs.Statements.{turns_of, run}
@@ -23,6 +23,24 @@ touches_among (traps t ∷ es) = touches_among es
 -- the touches of a log in iteration k
 abbrev pub touches_in : ℕ → Log → List Touch
 touches_in k l = touches_among (events_in k l)
+
+abbrev pub is_right_side : (List ℕ → Bool) → Passage → Bool
+is_right_side on (right_side x) = on x
+is_right_side on instance = false
+is_right_side on rounds = false
+is_right_side on (turn k) = false
+is_right_side on (iteration k) = false
+is_right_side on (condition m) = false
+is_right_side on (taken m) = false
+
+-- the touches of a log in the right sides of assignments to the names `on`
+abbrev pub right_touches_in : (List ℕ → Bool) → ℕ → Log → List Touch
+right_touches_in on k silence = []
+right_touches_in on k (single e) = []
+right_touches_in on k (touched p kind) = []
+right_touches_in on k (sets p v) = []
+right_touches_in on k (both a b) = right_touches_in on k a ++ right_touches_in on k b
+right_touches_in on k (within p a) = if is_right_side on p then touches_in (iteration_in k p) a else right_touches_in on (iteration_in k p) a
 
 -- the names that make touches at a site, as those that make accesses
 abbrev pub scope_at : Site → Scope

@@ -1,4 +1,4 @@
-ghost use Rattle.meaning.specs.FittingLaws.{FittingIsByPlace, ValuesFit, ConditionsAreDefined, CountsFit, RunsFit, EntriesFit, DirectionsFit, KindsGoByNames, EntriesAreKinded, TouchesAreAccesses};
+ghost use Rattle.meaning.specs.FittingLaws.{FittingIsByPlace, ValuesFit, ConditionsAreDefined, CountsFit, RunsFit, EntriesFit, DirectionsFit, KindsGoByNames, EntriesAreKinded, ProgramsAreKinded, TouchesAreAccesses};
 ghost use Rattle.meaning.specs.Groups.{RunsTouch, IterationsTouch};
 ghost use Rattle.meaning.specs.Frame.{NamesAreKept, CellsAreKept};
 ghost use Rattle.meaning.specs.Reached.{RunsAreSound};
@@ -51,6 +51,11 @@ pub fn kinds_go_by_names()
 /// A body that is well kinded by its declarations is so at the entry of the program.
 pub fn entries_are_kinded()
     ensures { EntriesAreKinded }
+{}
+
+/// So is the body of a program with its layout, where names are declared once and arrays are arguments.
+pub fn programs_are_kinded()
+    ensures { ProgramsAreKinded }
 {}
 
 /// A run ends with as many cells as it began with.
