@@ -18,6 +18,7 @@ use Rattle.parsing.specs.Limit.{Limit, allows}
 use Rattle.fl_parser.specs.declared.tree.Measured.{Measured}
 use Rattle.fl_parser.specs.declared.tree.Listed.{Listed}
 use Rattle.fl_parser.specs.declared.stmt.Counted.{Counted}
+use Rattle.fl_parser.specs.declared.stmt.TargetPlace.{TargetPlace}
 
 -- ---- expressions with their depths
 
@@ -74,9 +75,16 @@ declared ds line k i x = ds ++ (record { line = line; name = x.name; kind = k; b
 abbrev pub no_stmts : Counted
 no_stmts = record { stmts = []; count = 0 }
 
--- one more assignment to a scalar
-abbrev pub assigned : Counted → Word → Measured → Counted
-assigned c x e = record { stmts = c.stmts ++ Assign x.line false (place_of x.name) e.expr ∷ []; count = c.count + 1 }
+-- what is assigned
+abbrev pub scalar_target : Word → TargetPlace
+scalar_target x = record { line = x.line; place = place_of x.name }
+
+abbrev pub element_target : Word → Listed → TargetPlace
+element_target x l = record { line = x.line; place = place_at x.name l.exprs }
+
+-- one more assignment
+abbrev pub assigned : Counted → TargetPlace → Measured → Counted
+assigned c t e = record { stmts = c.stmts ++ Assign t.line false t.place e.expr ∷ []; count = c.count + 1 }
 
 abbrev pub program : ℕ → Word → List (List ℕ) → List Decl → Counted → Program
 program line x args ds body = record { line = line; name = x.name; args = args; decls = ds; body = body.stmts }
