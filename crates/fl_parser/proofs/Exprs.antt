@@ -20,7 +20,7 @@ use Rattle.fl_parser.specs.Trees.{literal, scalar, negation, binary, power, no_e
 use Rattle.fl_parser.specs.Wide.{More}
 use Rattle.fl_parser.specs.ExprGrammar as g
 use Rattle.fl_parser.specs.ExprReading as p
-use Rattle.parsing.proofs.Outcomes.{never, sees-never, which, differ, Shrinks, shrinks_pure, shrinks_seq, Bites, bites_seq}
+use Rattle.parsing.proofs.Outcomes.{never, which, differ, Shrinks, shrinks_pure, shrinks_seq, Bites, bites_seq}
 use Rattle.parsing.proofs.Exact.{Exact, Room, always_room, room_of, both_rooms, frees_less, Begins, Meets, pure_exact, seq, either_within, shrinks_token}
 use Rattle.parsing.proofs.Rules.{either, begins_seq, begins_or, begins_where, meets_never, narrow, anywhere, mapped, loop_exact, many_meets, shrinks_loop, meets_or, gives_meets}
 use Rattle.parsing.proofs.Grouped.{grouped_exact, grouped_meets}

@@ -1,3 +1,5 @@
+pub mod ExactDims
+pub mod ReadableDims
 pub mod Holding
 pub mod Readables
 pub mod Exprs

@@ -14,6 +14,7 @@ use Rattle.fl_ast.specs.declared.kind.Intent.{Intent}
 use Rattle.fl_ast.specs.declared.kind.BinOp.{BinOp}
 use Rattle.fl_ast.specs.declared.kind.Fun.{Fun}
 use Rattle.fl_ast.specs.declared.kind.Fun.TheVariants as fun
+use Rattle.fl_ast.specs.declared.decl.Dim.{Dim}
 use Rattle.fl_ast.specs.declared.decl.Decl.{Decl}
 use Rattle.fl_ast.specs.declared.expr.Expr.{Expr}
 use Rattle.fl_ast.specs.declared.expr.Expr.TheVariants.{Lit, Get, Neg, Bin, Pow, Call, rolls-Lit, rolls-Get, rolls-Neg, rolls-Bin, rolls-Pow, rolls-Call}
@@ -26,7 +27,7 @@ use Rattle.fl_ast.specs.declared.stmt.Stmt.TheFolds.{fold-roll-Stmt}
 use Rattle.fl_ast.specs.declared.stmt.Stmt.TheOpen.{Stmt-F}
 use Rattle.fl_ast.specs.Tree.{Expression, Designator, literal as literal_tree, get, minus, binary as binary_tree, power as power_tree, call, no_expressions, expr_level, place_level, expr_tree, expr_trees, place_tree, Condition, Statement, Statements, assignment, stmt_level, arm_level, stmt_tree, stmt_trees}
 use Rattle.fl_ast.specs.Measures.{depth, deepest, nodes_of_each, deepest_in, deepest_in_all, count, count_all, block_depth, block_depth_of_all, loop_numbers, loop_numbers_of_all, nodes, statement_nodes, nodes_of_all}
-use Rattle.fl_ast.specs.Readable.{is_variable, is_readable, are_readable, number_of, arity, is_readable_statement, are_readable_statements, is_size_of, is_readable_decl, counts_up_from, IsReadable}
+use Rattle.fl_ast.specs.Readable.{is_variable, is_readable, are_readable, number_of, arity, is_readable_statement, are_readable_statements, is_size_of, is_readable_decl, counts_up_from, IsReadable, is_readable_dim}
 use Rattle.parsing.specs.declared.symbol.Symbol.{Symbol}
 use Rattle.parsing.specs.declared.symbol.Symbol.TheVariants as s
 use Rattle.parsing.specs.declared.cursor.Word.{Word}
@@ -42,11 +43,13 @@ use Rattle.fl_parser.specs.declared.stmt.TargetPlace.{TargetPlace}
 use Rattle.fl_ast.specs.declared.expr.Place.{Place}
 use Rattle.fl_parser.specs.Limits.{the_limits}
 use Rattle.fl_parser.specs.Terminals.{sum_op_by, product_op_by, pairing_by, single_by, exponent}
-use Rattle.fl_parser.specs.Trees.{kind_of, literal, scalar, place_of, place_at, negation, binary, power, no_exprs, one_more, element, call_of, may_stand_left, declared, assigned, no_stmts, program, scalar_target, element_target}
+use Rattle.fl_parser.specs.Trees.{kind_of, literal, scalar, place_at, negation, binary, power, no_exprs, one_more, element, call_of, may_stand_left, declared, assigned, no_stmts, program, scalar_target, element_target}
 use Rattle.fl_parser.specs.ExprGrammar as g
 use Rattle.fl_parser.specs.UnitGrammar as g2
+use Rattle.fl_parser.specs.DimGrammar as g3
 use Rattle.parsing.proofs.Outcomes.{differ}
 use Rattle.parsing.proofs.OnSymbols.{begins_mark, begins_name, begins_number, begins_small_number, begins_by}
+use Rattle.fl_parser.proofs.ReadableDims.{AreDims, shape_is}
 use Rattle.fl_parser.proofs.Holding.{Holds, holds_bind, holds_gives, holds_many, holds_any, holds_some, holds_name, holds_word, holds_number, holds_small, holds_both, width, lexemes_spelled, lexemes_narrow}
 
 -- ---- trees
@@ -490,13 +493,14 @@ size_of : (k : Kind) → is_size_of k (bytes_of k) ≡ true
 size_of Index = refl
 size_of Ring = refl
 
-declared_well : (ds : List Decl) (line : ℕ) (k : Kind) (i : Intent) (x : Word) → nat_le (length ds + 1) 512 ≡ true → is_variable x.name ≡ true → Declares_well ds → Declares_well (declared ds line k i x)
-declared_well ds line k i x h named D =
-    let d : Decl = record { line = line; name = x.name; kind = k; bytes = bytes_of k; intent = i; dims = [] } in
+declared_well : (ds : List Decl) (line : ℕ) (k : Kind) (i : Intent) (x : Word) (dims : List Dim) → nat_le (length ds + 1) 512 ≡ true → is_variable x.name ≡ true → list_all is_readable_dim dims ≡ true → Declares_well ds →
+    Declares_well (declared ds line k i x dims)
+declared_well ds line k i x dims h named shaped D =
+    let d : Decl = record { line = line; name = x.name; kind = k; bytes = bytes_of k; intent = i; dims = dims } in
     let size = length-append ds (d ∷ []) in
     record {
       few = grind (arith, nat_tests);
-      readable = list_all-append is_readable_decl ds (d ∷ []) ∙ and_true _ _ D.readable (and_true _ _ (and_true _ _ named (and_true _ _ (size_of k) refl)) refl);
+      readable = list_all-append is_readable_decl ds (d ∷ []) ∙ and_true _ _ D.readable (and_true _ _ (and_true _ _ named (and_true _ _ (size_of k) shaped)) refl);
     }
 
 decls_well : (m : ℕ) → Holds m (g2.decls the_limits) (λ ds k. Declares_well ds)
@@ -506,14 +510,16 @@ decls_well m = holds_many (g2.may_declare the_limits) (g2.decl the_limits) (λ d
     (λ line b _. holds_bind b g2.kind _ (λ _ c. b ≤ c) (λ es k. Declares_well es) (holds_any b _)
     (λ kind c _. holds_bind c g2.intent _ (λ _ e. c ≤ e) (λ es k. Declares_well es) (holds_any c _)
     (λ i e _. holds_bind e (one name) _ (λ x k. is_variable x.name ≡ true) (λ es k. Declares_well es) (holds_name e)
-    (λ x f named. holds_bind f (g2.items the_limits line kind i (declared ds line kind i x)) _ (λ es k. Declares_well es) (λ es k. Declares_well es)
+    (λ x o named. holds_bind o g3.shape _ AreDims (λ es k. Declares_well es) (shape_is o)
+    (λ dims f shaped. holds_bind f (g2.items the_limits line kind i (declared ds line kind i x dims)) _ (λ es k. Declares_well es) (λ es k. Declares_well es)
     (holds_many (g2.may_declare the_limits) (g2.another_item the_limits line kind i) (λ es k. Declares_well es)
     (λ es k E r. holds_bind k (one (marked s.Comma)) _ (λ _ n. k ≤ n) (λ es n. Declares_well es) (holds_any k _)
     (λ _ n _. holds_bind n (one name) _ (λ y k. is_variable y.name ≡ true) (λ es n. Declares_well es) (holds_name n)
-    (λ y n called. holds_gives n (declared es line kind i y) (λ es n. Declares_well es) (declared_well es line kind i y r called E))))
-    (declared ds line kind i x) f (declared_well ds line kind i x h named D))
+    (λ y o called. holds_bind o g3.shape _ AreDims (λ es n. Declares_well es) (shape_is o)
+    (λ more_dims n more_shaped. holds_gives n (declared es line kind i y more_dims) (λ es n. Declares_well es) (declared_well es line kind i y more_dims r called more_shaped E)))))
+    (declared ds line kind i x dims) f (declared_well ds line kind i x dims h named shaped D))
     (λ found n F. holds_bind n (one (marked s.LineEnd)) _ (λ _ k. n ≤ k) (λ es k. Declares_well es) (holds_any n _)
-    (λ _ k _. holds_gives k found (λ es k. Declares_well es) F)))))))
+    (λ _ k _. holds_gives k found (λ es k. Declares_well es) F))))))))
     [] m (record { few = omega arith; readable = refl })
 
 -- ---- the unit

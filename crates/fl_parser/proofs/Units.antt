@@ -23,8 +23,9 @@ use Rattle.fl_parser.specs.UnitGrammar as g
 use Rattle.fl_parser.specs.UnitReading as p
 use Rattle.parsing.proofs.Outcomes.{never, sees-never, shrinks_pure, shrinks_seq, Bites, Shrinks, bites_seq}
 use Rattle.parsing.proofs.Exact.{Exact, always_room, room_of, frees_less, Begins, Meets, pure_exact, seq, shrinks_token, either_within}
-use Rattle.parsing.proofs.Rules.{narrow, anywhere, either, optional, loop_exact, begins_seq, begins_or, begins_opens, Opens, opens_or, opens_gives, opens_begins, opens_many, meets_never, gives_meets, meets_or, shrinks_optional}
-use Rattle.parsing.proofs.OnSymbols.{less, wider, among, meets, begins_in, begins_mark, begins_name, begins_by, begins_same_word, mark_exact, name_exact, word_exact, same_word_exact, by_exact, mark_then, bites_mark, bites_name}
+use Rattle.parsing.proofs.Rules.{narrow, anywhere, either, optional, loop_exact, begins_seq, begins_or, begins_opens, Opens, opens_or, opens_gives, opens_begins, opens_many, meets_never, gives_meets, meets_or, shrinks_optional, mapped}
+use Rattle.parsing.proofs.OnSymbols.{less, wider, among, meets, begins_in, begins_mark, begins_name, begins_by, begins_same_word, mark_exact, name_exact, word_exact, same_word_exact, by_exact, mark_then, bites_mark, bites_name, apart}
+use Rattle.fl_parser.proofs.ExactDims.{shape_exact}
 use Rattle.fl_parser.proofs.Exprs.{binds, expr_exact, brackets_room, list_exact, list_begins, list_bites}
 
 -- ---- declarations
@@ -117,10 +118,18 @@ opens_in f h N o wide x us rest n = elim (o x us rest n) [ inl e ↦ inl e | inr
 opens_heads : Opens g.intent (on heads)
 opens_heads = opens_in intents heads _ intent_opens (wider intents heads refl refl)
 
+-- what goes on with the items of a declaration
+abbrev shapes : Symbol → Bool
+shapes = among (s.Comma ∷ s.Open ∷ [])
+
+-- what stands behind an item
+abbrev ends_item : Symbol → Bool
+ends_item = among (s.Comma ∷ s.LineEnd ∷ [])
+
 module _ (l : Freed) (limits wide : Limits) (W : Widens l limits wide) where
-  another_item_exact : (line : ℕ) (k : Kind) (i : Intent) (ds : List Decl) → Exact l (g.another_item limits line k i ds) never (p.another_item limits line k i ds) (p.another_item wide line k i ds)
+  another_item_exact : (line : ℕ) (k : Kind) (i : Intent) (ds : List Decl) → Exact l (g.another_item limits line k i ds) (is s.Open) (p.another_item limits line k i ds) (p.another_item wide line k i ds)
   unfolding g.another_item p.another_item
-  another_item_exact line k i ds = mark_then s.Comma _ _ _ (λ _. seq name_exact (λ x. pure_exact (declared ds line k i x)) (λ x. meets_never never _))
+  another_item_exact line k i ds = mark_then s.Comma _ _ _ (λ _. seq name_exact (λ x. mapped (shape_exact l) (declared ds line k i x)) (λ x. meets_never (is s.Open) _))
 
   another_item_begins : (line : ℕ) (k : Kind) (i : Intent) (ds : List Decl) → Begins (g.another_item limits line k i ds) (is s.Comma)
   unfolding g.another_item
@@ -128,13 +137,13 @@ module _ (l : Freed) (limits wide : Limits) (W : Widens l limits wide) where
 
   another_item_bites : (line : ℕ) (k : Kind) (i : Intent) (ds : List Decl) → Bites (p.another_item wide line k i ds) (is s.Comma)
   unfolding p.another_item
-  another_item_bites line k i ds = bites_mark s.Comma _ (λ _. shrinks_seq _ _ (shrinks_token _) (λ x. shrinks_pure (declared ds line k i x)))
+  another_item_bites line k i ds = bites_mark s.Comma _ (λ _. shrinks_seq _ _ (shrinks_token _) (λ x. shrinks_seq _ _ ((shape_exact l).shrinks) (λ dims. shrinks_pure (declared ds line k i x dims))))
 
-  items_exact : (line : ℕ) (k : Kind) (i : Intent) (ds : List Decl) → Exact l (g.items limits line k i ds) (is s.Comma) (p.items limits line k i ds) (p.items wide line k i ds)
+  items_exact : (line : ℕ) (k : Kind) (i : Intent) (ds : List Decl) → Exact l (g.items limits line k i ds) (on shapes) (p.items limits line k i ds) (p.items wide line k i ds)
   unfolding g.items p.items
-  items_exact line k i = loop_exact l (is s.Comma) never (is s.Comma) (g.may_declare limits) (g.may_declare wide) Many _ _ _
+  items_exact line k i = loop_exact l (is s.Comma) (is s.Open) (on shapes) (g.may_declare limits) (g.may_declare wide) Many _ _ _
       (λ ds. room_of W.names (length ds + 1)) (another_item_exact line k i) (another_item_begins line k i) (another_item_bites line k i)
-      (λ rest h. sees-never rest) (λ rest h. h) (λ rest h. sees-never rest)
+      (less (same s.Open) shapes refl refl) (less (same s.Comma) shapes refl refl) (apart (same s.Comma) (same s.Open) refl refl)
 
   items_open : (line : ℕ) (k : Kind) (i : Intent) (ds : List Decl) → Opens (g.items limits line k i ds) (is s.Comma)
   unfolding g.items
@@ -146,8 +155,12 @@ module _ (l : Freed) (limits wide : Limits) (W : Widens l limits wide) where
   decl_exact ds = mark_then s.Integer _ _ _ (λ line. seq (kind_exact l)
       (λ k. seq (intent_exact l)
       (λ i. seq name_exact
-      (λ x. seq (items_exact line k i (declared ds line k i x)) (λ found. mark_then s.LineEnd _ _ _ (λ _. pure_exact found))
-      (λ found. meets (same s.LineEnd) (same s.Comma) never _ (begins_seq _ (begins_mark s.LineEnd)) refl refl))
+      (λ x. seq (shape_exact l)
+      (λ dims. seq (items_exact line k i (declared ds line k i x dims)) (λ found. mark_then s.LineEnd _ _ _ (λ _. pure_exact found))
+      (λ found. meets (same s.LineEnd) shapes never _ (begins_seq _ (begins_mark s.LineEnd)) refl refl))
+      (λ dims. meets ends_item (same s.Open) never _ (begins_opens (g.items limits line k i (declared ds line k i x dims)) _ (on ends_item)
+      (opens_in (same s.Comma) ends_item _ (items_open line k i (declared ds line k i x dims)) (wider (same s.Comma) ends_item refl refl))
+      (λ found. begins_in (same s.LineEnd) ends_item _ (begins_seq _ (begins_mark s.LineEnd)) refl refl)) refl refl))
       (λ x. meets_never never _))
       (λ i. meets names intents never _ (begins_seq _ begins_name) refl refl))
       (λ k. meets heads (same s.Open) never _
@@ -160,7 +173,7 @@ module _ (l : Freed) (limits wide : Limits) (W : Widens l limits wide) where
   decl_bites : (ds : List Decl) → Bites (p.decl wide ds) (is s.Integer)
   unfolding p.decl
   decl_bites ds = bites_mark s.Integer _ (λ line. shrinks_seq _ _ ((kind_exact l).shrinks) (λ k. shrinks_seq _ _ ((intent_exact l).shrinks) (λ i. shrinks_seq _ _ (shrinks_token _)
-      (λ x. shrinks_seq _ _ ((items_exact line k i (declared ds line k i x)).shrinks) (λ found. shrinks_seq _ _ (shrinks_token _) (λ _. shrinks_pure found))))))
+      (λ x. shrinks_seq _ _ ((shape_exact l).shrinks) (λ dims. shrinks_seq _ _ ((items_exact line k i (declared ds line k i x dims)).shrinks) (λ found. shrinks_seq _ _ (shrinks_token _) (λ _. shrinks_pure found)))))))
 
   decls_exact : Exact l (g.decls limits) (is s.Integer) (p.decls limits) (p.decls wide)
   unfolding g.decls p.decls

@@ -6,6 +6,11 @@ use Rattle.fl_ast.specs.declared.kind.Kind.TheVariants.{Index, Ring}
 use Rattle.fl_ast.specs.declared.kind.BinOp.{BinOp}
 use Rattle.fl_ast.specs.declared.kind.Fun.{Fun}
 use Rattle.fl_ast.specs.declared.kind.Intent.{Intent}
+use Rattle.fl_ast.specs.declared.decl.Sign.{Sign}
+use Rattle.fl_ast.specs.declared.decl.Factor.{Factor}
+use Rattle.fl_ast.specs.declared.decl.Term.{Term}
+use Rattle.fl_ast.specs.declared.decl.Bound.{Bound}
+use Rattle.fl_ast.specs.declared.decl.Dim.{Dim}
 use Rattle.fl_ast.specs.declared.decl.Decl.{Decl}
 use Rattle.fl_ast.specs.declared.stmt.Stmt.TheVariants.{Assign}
 use Rattle.fl_ast.specs.declared.stmt.Program.{Program}
@@ -68,9 +73,18 @@ may_stand_left d e = allows d e.depth
 
 -- ---- declarations, statements and the unit
 
--- one more scalar
-abbrev pub declared : List Decl → ℕ → Kind → Intent → Word → List Decl
-declared ds line k i x = ds ++ (record { line = line; name = x.name; kind = k; bytes = bytes_of k; intent = i; dims = [] }) ∷ []
+abbrev pub term_of : Factor → Option Factor → Term
+term_of f r = record { first = f; second = r }
+
+abbrev pub bound_of : Term → Option (Sign × Term) → Bound
+bound_of t r = record { first = t; rest = r }
+
+abbrev pub dim_of : Option Bound → Bound → Dim
+dim_of l u = record { lower = l; upper = u }
+
+-- one more name
+abbrev pub declared : List Decl → ℕ → Kind → Intent → Word → List Dim → List Decl
+declared ds line k i x dims = ds ++ (record { line = line; name = x.name; kind = k; bytes = bytes_of k; intent = i; dims = dims }) ∷ []
 
 abbrev pub no_stmts : Counted
 no_stmts = record { stmts = []; count = 0 }

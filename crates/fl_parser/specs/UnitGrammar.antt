@@ -16,6 +16,7 @@ use Rattle.fl_parser.specs.declared.stmt.TargetPlace.{TargetPlace}
 use Rattle.fl_parser.specs.Terminals.{kind_number}
 use Rattle.fl_parser.specs.Limits.{Limits}
 use Rattle.fl_parser.specs.Trees.{declared, scalar_target, element_target, assigned, no_stmts, program}
+use Rattle.fl_parser.specs.DimGrammar.{shape}
 use Rattle.fl_parser.specs.ExprGrammar.{expr, below, subscripts}
 
 -- ---- declarations
@@ -103,19 +104,21 @@ module _ (limits : Limits) where
   another_item line k i ds = do
     comma ← one (marked s.Comma)
     x ← one name
-    gives (declared ds line k i x)
+    dims ← shape
+    gives (declared ds line k i x dims)
 
   unfoldable pub items : ℕ → Kind → Intent → List Decl → Grammar (List Decl)
   items line k i = many (λ ds. where_ (may_declare ds) (another_item line k i ds))
 
-  -- "integer" [ kind ] [ intent ] name { "," name } eol
+  -- "integer" [ kind ] [ intent ] item { "," item } eol
   unfoldable pub decl : List Decl → Grammar (List Decl)
   decl ds = do
     line ← one (marked s.Integer)
     k ← kind
     i ← intent
     x ← one name
-    found ← items line k i (declared ds line k i x)
+    dims ← shape
+    found ← items line k i (declared ds line k i x dims)
     eol ← one (marked s.LineEnd)
     gives found
 

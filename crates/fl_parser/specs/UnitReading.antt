@@ -17,6 +17,7 @@ use Rattle.fl_parser.specs.declared.stmt.TargetPlace.{TargetPlace}
 use Rattle.fl_parser.specs.Terminals.{kind_number}
 use Rattle.fl_parser.specs.Limits.{Limits}
 use Rattle.fl_parser.specs.Trees.{declared, scalar_target, element_target, assigned, no_stmts, program}
+use Rattle.fl_parser.specs.DimReading.{shape}
 use Rattle.fl_parser.specs.ExprReading.{expr, below, subscripts}
 
 -- ---- declarations
@@ -96,7 +97,8 @@ module _ (limits : Limits) where
   another_item line k i ds = do
     comma ← token (marked s.Comma)
     x ← token name
-    pure (declared ds line k i x)
+    dims ← shape
+    pure (declared ds line k i x dims)
 
   unfoldable pub items : ℕ → Kind → Intent → List Decl → Parser (List Decl)
   items line k i = loop (is s.Comma) may_declare Many (another_item line k i)
@@ -107,7 +109,8 @@ module _ (limits : Limits) where
     k ← kind
     i ← intent
     x ← token name
-    found ← items line k i (declared ds line k i x)
+    dims ← shape
+    found ← items line k i (declared ds line k i x dims)
     eol ← token (marked s.LineEnd)
     pure found
 

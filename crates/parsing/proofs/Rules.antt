@@ -8,7 +8,7 @@ use Rattle.parsing.specs.declared.fault.Fault.{Fault}
 use Rattle.parsing.specs.Freed.{Freed}
 use Rattle.parsing.specs.Reading.{◌>>=◌ as ◌▷◌, Lexemes, Outcome, Parser, and_then, sees, fault, choose, within, turns, loop, pure}
 use Rattle.parsing.specs.Grammar.{◌>>=◌ as ◌⨟◌, Grammar, gives, ◌or◌, where_, times, many}
-use Rattle.parsing.proofs.Outcomes.{first, append_split, never, sees-never, which, differ, err_is, choose_true, choose_false, Within, within_past, Shrinks, shrinks_pure, shrinks_seq, Bites, bites_seq}
+use Rattle.parsing.proofs.Outcomes.{first, append_split, never, sees-never, which, differ, err_is, choose_true, choose_false, Within, within_past, Shrinks, shrinks_pure, shrinks_seq, Bites, bites_seq, append_nil}
 use Rattle.parsing.proofs.Exact.{Exact, Room, always_room, Begins, Meets, Steady, Stuck, pure_exact, seq, either_within}
 
 -- ---- fewer tokens that may follow, and other words for the same grammar
@@ -97,6 +97,9 @@ optional {test = test} a P begins less = either P (anywhere (pure_exact a)) begi
 pub mapped : {A B : Type 0} {l : Freed} {N : Grammar A} {after : Lexeme → Bool} {q q2 : Parser A} → Exact l N after q q2 → (f : A → B) →
     Exact l (N ⨟ (λ x. gives (f x))) after (q ▷ (λ x. pure (f x))) (q2 ▷ (λ x. pure (f x)))
 mapped {after = after} P f = seq P (λ x. anywhere (pure_exact (f x))) (λ x. gives_meets (f x) after after (λ rest h. h))
+
+pub meets_mapped : {A B : Type 0} (N : Grammar A) (f : A → B) (before after : Lexeme → Bool) → Meets N before after → Meets (N ⨟ (λ x. gives (f x))) before after
+meets_mapped N f before after m z us rest (x, vs, ws, n, r, e) h = ap (λ v. sees before (v ++ rest)) (e ∙ ap (λ w. vs ++ w) r.1 ∙ append_nil vs) ∙ m x vs rest n h
 
 -- ---- the same step again and again
 
