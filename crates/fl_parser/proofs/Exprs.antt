@@ -1,5 +1,6 @@
 -- Expressions are read exactly.
-use Rattle.std.proofs.Common.{◌≡◌, ℕ, zero, suc, Bool, true, false, ◌&&◌, cond, [], ◌∷◌, refl, sym, ◌⊎◌, inl, inr, arith}
+use Rattle.std.proofs.Common.{◌≡◌, ℕ, zero, suc, Bool, true, false, ◌&&◌, cond, nat_lt, [], ◌∷◌, refl, sym, ◌∙◌, ◌⊎◌, inl, inr, arith}
+use Rattle.std.proofs.lemmas.Bool.Decides.{nat_tests}
 use Rattle.parsing.specs.declared.symbol.Symbol.{Symbol}
 use Rattle.parsing.specs.declared.symbol.Symbol.TheVariants as s
 use Rattle.parsing.specs.declared.fault.Cause.TheVariants.{Expected, Deep}
@@ -19,7 +20,7 @@ use Rattle.fl_parser.specs.Trees.{literal, scalar, negation, binary, power, no_e
 use Rattle.fl_parser.specs.Wide.{More}
 use Rattle.fl_parser.specs.ExprGrammar as g
 use Rattle.fl_parser.specs.ExprReading as p
-use Rattle.parsing.proofs.Outcomes.{never, sees-never, which, differ, Shrinks, shrinks_pure, shrinks_seq, Bites, bites_seq}
+use Rattle.parsing.proofs.Outcomes.{never, which, differ, Shrinks, shrinks_pure, shrinks_seq, Bites, bites_seq}
 use Rattle.parsing.proofs.Exact.{Exact, Room, always_room, room_of, both_rooms, frees_less, Begins, Meets, pure_exact, seq, either_within, shrinks_token}
 use Rattle.parsing.proofs.Rules.{either, begins_seq, begins_or, begins_where, meets_never, narrow, anywhere, mapped, loop_exact, many_meets, shrinks_loop, meets_or, gives_meets}
 use Rattle.parsing.proofs.Grouped.{grouped_exact, grouped_meets}
@@ -379,3 +380,52 @@ expr_exact l (suc b) (suc b2) R = sum_exact l true true always_room _ _ _ (λ _.
   where
     down : More l b b2
     down = record { stays = λ f. let e = R.stays f in omega arith; goes = λ t. let e = R.goes t in omega arith }
+
+-- ---- lists in brackets, outside expressions
+
+some : (b : ℕ) → nat_lt 0 (suc b) ≡ true
+some b = grind (arith, nat_tests)
+
+bracket_room : (l : Freed) (b b2 : ℕ) → More l b b2 → Room l Deep (nat_lt 0 b) (nat_lt 0 b2)
+bracket_room l zero zero R = record { grows = λ h. h; lifts = λ _. closed }
+  where
+    closed : false ≡ frees l Deep
+    closed = elim (which (frees l Deep)) [ inl t ↦ absurd (let more = R.goes t in omega arith) | inr f ↦ sym f ]
+bracket_room l zero (suc b2) R = record { grows = λ h. some b2; lifts = λ _. some b2 ∙ open_ }
+  where
+    open_ : true ≡ frees l Deep
+    open_ = elim (which (frees l Deep)) [ inl t ↦ sym t | inr f ↦ absurd (let same_ = R.stays f in omega arith) ]
+bracket_room l (suc b) zero R = absurd (wrong (which (frees l Deep)))
+  where
+    wrong : (frees l Deep ≡ true) ⊎ (frees l Deep ≡ false) → ⊥
+    wrong (inl t) = let more = R.goes t in omega arith
+    wrong (inr f) = let same_ = R.stays f in omega arith
+bracket_room l (suc b) (suc b2) R = record { grows = λ h. some b2; lifts = λ h. differ (nat_lt 0 (suc b)) (some b) h }
+
+below_exact : (l : Freed) (b b2 : ℕ) → More l b b2 → nat_lt 0 b ≡ true → (d d2 : Limit) → Frees l Deep d d2 → Exact l (g.below b d) (on binds) (p.below b d) (p.below b2 d2)
+unfolding g.below p.below
+below_exact l zero b2 R so = λ d d2 F. differ (nat_lt 0 0) so refl
+below_exact l (suc b) zero R so = λ d d2 F. absurd (wrong (which (frees l Deep)))
+  where
+    wrong : (frees l Deep ≡ true) ⊎ (frees l Deep ≡ false) → ⊥
+    wrong (inl t) = let more = R.goes t in omega arith
+    wrong (inr f) = let same_ = R.stays f in omega arith
+below_exact l (suc b) (suc b2) R so = expr_exact l b b2 (record { stays = λ f. let e = R.stays f in omega arith; goes = λ t. let e = R.goes t in omega arith })
+
+below_shrinks : (b : ℕ) → nat_lt 0 b ≡ true → (d : Limit) → Shrinks (p.below b d)
+unfolding p.below
+below_shrinks zero so d = differ (nat_lt 0 0) so refl
+below_shrinks (suc b) so d = (expr_same b d d (nothing_freed d)).shrinks
+
+module _ (l : Freed) (b b2 : ℕ) (R : More l b b2) (d d2 : Limit) (F : Frees l Deep d d2) where
+  pub brackets_room : Room l Deep (nat_lt 0 b) (nat_lt 0 b2)
+  brackets_room = bracket_room l b b2 R
+
+  pub list_exact : nat_lt 0 b ≡ true → Exact l (g.subscripts (nat_lt 0 b) (g.below b) d) never (p.subscripts (nat_lt 0 b) (p.below b) d) (p.subscripts (nat_lt 0 b2) (p.below b2) d2)
+  list_exact so = subscripts_exact l (nat_lt 0 b) (nat_lt 0 b2) brackets_room (g.below b) (p.below b) (p.below b2) (below_exact l b b2 R) (below_shrinks b2) so d d2 F
+
+  pub list_begins : Begins (g.subscripts (nat_lt 0 b) (g.below b) d) (is s.Open)
+  list_begins = subscripts_begins l (nat_lt 0 b) (nat_lt 0 b2) brackets_room (g.below b) (p.below b) (p.below b2) (below_exact l b b2 R) (below_shrinks b2) d
+
+  pub list_bites : nat_lt 0 b2 ≡ true → Bites (p.subscripts (nat_lt 0 b2) (p.below b2) d2) (is s.Open)
+  list_bites so = subscripts_bites l (nat_lt 0 b) (nat_lt 0 b2) brackets_room (g.below b) (p.below b) (p.below b2) (below_exact l b b2 R) (below_shrinks b2) so d2

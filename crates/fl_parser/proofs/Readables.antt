@@ -14,6 +14,7 @@ use Rattle.fl_ast.specs.declared.kind.Intent.{Intent}
 use Rattle.fl_ast.specs.declared.kind.BinOp.{BinOp}
 use Rattle.fl_ast.specs.declared.kind.Fun.{Fun}
 use Rattle.fl_ast.specs.declared.kind.Fun.TheVariants as fun
+use Rattle.fl_ast.specs.declared.decl.Dim.{Dim}
 use Rattle.fl_ast.specs.declared.decl.Decl.{Decl}
 use Rattle.fl_ast.specs.declared.expr.Expr.{Expr}
 use Rattle.fl_ast.specs.declared.expr.Expr.TheVariants.{Lit, Get, Neg, Bin, Pow, Call, rolls-Lit, rolls-Get, rolls-Neg, rolls-Bin, rolls-Pow, rolls-Call}
@@ -26,7 +27,7 @@ use Rattle.fl_ast.specs.declared.stmt.Stmt.TheFolds.{fold-roll-Stmt}
 use Rattle.fl_ast.specs.declared.stmt.Stmt.TheOpen.{Stmt-F}
 use Rattle.fl_ast.specs.Tree.{Expression, Designator, literal as literal_tree, get, minus, binary as binary_tree, power as power_tree, call, no_expressions, expr_level, place_level, expr_tree, expr_trees, place_tree, Condition, Statement, Statements, assignment, stmt_level, arm_level, stmt_tree, stmt_trees}
 use Rattle.fl_ast.specs.Measures.{depth, deepest, nodes_of_each, deepest_in, deepest_in_all, count, count_all, block_depth, block_depth_of_all, loop_numbers, loop_numbers_of_all, nodes, statement_nodes, nodes_of_all}
-use Rattle.fl_ast.specs.Readable.{is_variable, is_readable, are_readable, number_of, arity, is_readable_statement, are_readable_statements, is_size_of, is_readable_decl, counts_up_from, IsReadable}
+use Rattle.fl_ast.specs.Readable.{is_variable, is_readable, are_readable, number_of, arity, is_readable_statement, are_readable_statements, is_size_of, is_readable_decl, counts_up_from, IsReadable, is_readable_dim}
 use Rattle.parsing.specs.declared.symbol.Symbol.{Symbol}
 use Rattle.parsing.specs.declared.symbol.Symbol.TheVariants as s
 use Rattle.parsing.specs.declared.cursor.Word.{Word}
@@ -38,13 +39,17 @@ use Rattle.parsing.specs.Grammar.{Grammar, one, grouped, left_grouped}
 use Rattle.fl_parser.specs.declared.tree.Measured.{Measured}
 use Rattle.fl_parser.specs.declared.tree.Listed.{Listed}
 use Rattle.fl_parser.specs.declared.stmt.Counted.{Counted}
+use Rattle.fl_parser.specs.declared.stmt.TargetPlace.{TargetPlace}
+use Rattle.fl_ast.specs.declared.expr.Place.{Place}
 use Rattle.fl_parser.specs.Limits.{the_limits}
 use Rattle.fl_parser.specs.Terminals.{sum_op_by, product_op_by, pairing_by, single_by, exponent}
-use Rattle.fl_parser.specs.Trees.{kind_of, literal, scalar, place_of, place_at, negation, binary, power, no_exprs, one_more, element, call_of, may_stand_left, declared, assigned, no_stmts, program}
+use Rattle.fl_parser.specs.Trees.{kind_of, literal, scalar, place_at, negation, binary, power, no_exprs, one_more, element, call_of, may_stand_left, declared, assigned, no_stmts, program, scalar_target, element_target}
 use Rattle.fl_parser.specs.ExprGrammar as g
 use Rattle.fl_parser.specs.UnitGrammar as g2
+use Rattle.fl_parser.specs.DimGrammar as g3
 use Rattle.parsing.proofs.Outcomes.{differ}
 use Rattle.parsing.proofs.OnSymbols.{begins_mark, begins_name, begins_number, begins_small_number, begins_by}
+use Rattle.fl_parser.proofs.ReadableDims.{AreDims, shape_is}
 use Rattle.fl_parser.proofs.Holding.{Holds, holds_bind, holds_gives, holds_many, holds_any, holds_some, holds_name, holds_word, holds_number, holds_small, holds_both, width, lexemes_spelled, lexemes_narrow}
 
 -- ---- trees
@@ -70,10 +75,10 @@ tree-Pow e n = ap expr_tree (sym (rolls-Pow e n)) ∙ fold-roll-Expr Expression 
 tree-Call : (f : Fun) (es : List Expr) → expr_tree (Call f es) ≡ call f (expr_trees es)
 tree-Call f es = ap expr_tree (sym (rolls-Call f es)) ∙ fold-roll-Expr Expression Designator expr_level place_level (Expr-F.Call f es)
 
-tree-Assign : (line : ℕ) (x : List ℕ) (e : Expr) → stmt_tree (Assign line false (place_of x) e) ≡ assignment line false (record { name = x; subscripts = no_expressions }) (expr_tree e)
-tree-Assign line x e =
-    ap stmt_tree (sym (rolls-Assign line false (place_of x) e)) ∙ fold-roll-Stmt Statement (Condition × Statements) stmt_level arm_level (Stmt-F.Assign line false (place_of x) e)
-    ∙ ap (λ p. assignment line false p (expr_tree e)) (place-of x [])
+tree-Assign : (line : ℕ) (p : Place) (e : Expr) → stmt_tree (Assign line false p e) ≡ assignment line false (record { name = p.name; subscripts = expr_trees p.subscripts }) (expr_tree e)
+tree-Assign line p e =
+    ap stmt_tree (sym (rolls-Assign line false p e)) ∙ fold-roll-Stmt Statement (Condition × Statements) stmt_level arm_level (Stmt-F.Assign line false p e)
+    ∙ ap (λ q. assignment line false q (expr_tree e)) (fold_out-Place Expression Designator expr_level place_level p)
 
 pub depth_some : (e : Expression) → 0 < depth e
 depth_some (literal_tree n k) = omega arith
@@ -406,27 +411,56 @@ record Counts_well (c : Counted) (k : ℕ) : Type 0 where
   readable : are_readable_statements (stmt_trees c.stmts) ≡ true
   few_nodes : nodes_of_all (stmt_trees c.stmts) ≤ k
 
-assigned_is : (c : Counted) (x : Word) (e : Measured) (m a b k : ℕ) → Counts_well c m → nat_le (c.count + 1) 4096 ≡ true → is_variable x.name ≡ true → m < a → a < b → Sound (Some 63) b e k →
-    Counts_well (assigned c x e) k
-assigned_is c x e m a b k C h named more and_more S =
-    let s = Assign x.line false (place_of x.name) e.expr in
-    let t = tree-Assign x.line x.name e.expr in
-    let one_ : count (stmt_tree s) ≡ 1 = ap count t in
-    let deep : deepest_in (stmt_tree s) ≡ max 0 (depth (expr_tree e.expr)) = ap deepest_in t in
-    let flat : block_depth (stmt_tree s) ≡ 0 = ap block_depth t in
-    let size : statement_nodes (stmt_tree s) ≡ 0 + nodes (expr_tree e.expr) + 2 = ap statement_nodes t in
+-- of a target that begins behind m bytes and ends behind k
+record SoundTarget (m : ℕ) (t : TargetPlace) (k : ℕ) : Type 0 where
+  named : is_variable t.place.name ≡ true
+  shallow : deepest (expr_trees t.place.subscripts) ≤ 64
+  readable : are_readable (expr_trees t.place.subscripts) ≡ true
+  few : nodes_of_each (expr_trees t.place.subscripts) + m < k
+
+assigned_is : (c : Counted) (t : TargetPlace) (e : Measured) (m a b k : ℕ) → Counts_well c m → nat_le (c.count + 1) 4096 ≡ true → SoundTarget m t a → a < b → Sound (Some 63) b e k →
+    Counts_well (assigned c t e) k
+assigned_is c t e m a b k C h T more S =
+    let s = Assign t.line false t.place e.expr in
+    let i = tree-Assign t.line t.place e.expr in
+    let one_ : count (stmt_tree s) ≡ 1 = ap count i in
+    let deep : deepest_in (stmt_tree s) ≡ max (deepest (expr_trees t.place.subscripts)) (depth (expr_tree e.expr)) = ap deepest_in i in
+    let flat : block_depth (stmt_tree s) ≡ 0 = ap block_depth i in
+    let size : statement_nodes (stmt_tree s) ≡ nodes_of_each (expr_trees t.place.subscripts) + nodes (expr_tree e.expr) + 2 = ap statement_nodes i in
     let is_ = S.is in
     let fits = S.fits in
     let few_ = S.few in
+    let shallow_ = T.shallow in
+    let few_t = T.few in
     record {
       is = count-append c.stmts s ∙ ap (λ n. count_all (stmt_trees c.stmts) + n) one_ ∙ ap (λ n. n + 1) C.is;
       few = grind (arith, nat_tests);
       depths = subst (λ (n : ℕ). n ≤ 64) (sym (deepest-append c.stmts s)) (omega (arith, C.depths));
       blocks = subst (λ (n : ℕ). n ≤ 0) (sym (blocks-append c.stmts s)) (omega (arith, C.blocks, flat));
-      loops = loops-append c.stmts s C.loops (ap loop_numbers t);
-      readable = readable-append c.stmts s C.readable (ap is_readable_statement t ∙ and_true _ _ named S.readable);
-      few_nodes = subst (λ (n : ℕ). n ≤ k) (sym (nodes-append c.stmts s)) (omega (arith, C.few_nodes, size, few_, more, and_more));
+      loops = loops-append c.stmts s C.loops (ap loop_numbers i);
+      readable = readable-append c.stmts s C.readable (ap is_readable_statement i ∙ and_true _ _ T.named (and_true _ _ T.readable S.readable));
+      few_nodes = subst (λ (n : ℕ). n ≤ k) (sym (nodes-append c.stmts s)) (omega (arith, C.few_nodes, size, few_, few_t, more));
     }
+
+below_sound : (d : Limit) (m : ℕ) → Holds m (g.below 256 d) (Sound d m)
+unfolding g.below
+below_sound = expr_sound 255
+
+target_sound : (m : ℕ) → Holds m (g2.target the_limits) (SoundTarget m)
+unfolding g2.target g2.after_target g2.indexed_target
+target_sound m = holds_bind m (one name) _ (λ x k. (is_variable x.name ≡ true) × (m < k)) (SoundTarget m)
+    (holds_both m (one name) (λ x k. is_variable x.name ≡ true) (λ x k. m < k) (holds_name m) (holds_some m name names refl begins_name)) after
+  where
+    after : (x : Word) (k : ℕ) → (is_variable x.name ≡ true) × (m < k) → Holds k (g2.after_target the_limits x) (SoundTarget m)
+    after x k h t us sp (inl (r, n)) = holds_bind k (g.subscripts true (g.below 256) (Some 63)) _ (SoundList (Some 63) k) (SoundTarget m)
+        (subscripts_sound true (g.below 256) (λ _. below_sound) refl (Some 63) k)
+        (λ l c L. holds_gives c (element_target x l) (SoundTarget m) (let is_ = L.is in let fits_ = L.fits in let few_ = L.few in let more = h.1 in record {
+          named = h.0;
+          shallow = omega (arith, is_, fits_);
+          readable = L.readable;
+          few = omega (arith, few_, more);
+        })) t us sp n
+    after x k h t us sp (inr n) = holds_gives k (scalar_target x) (SoundTarget m) (let more = h.1 in record { named = h.0; shallow = omega arith; readable = refl; few = omega (arith, more) }) t us sp n
 
 longer : (c : Counted) (a k : ℕ) → a ≤ k → Counts_well c a → Counts_well c k
 longer c a k h C = let few_ = C.few_nodes in record {
@@ -442,12 +476,11 @@ longer c a k h C = let few_ = C.few_nodes in record {
 stmts_well : (m : ℕ) → Holds m (g2.stmts the_limits) Counts_well
 unfolding g2.stmts g2.assign
 stmts_well m = holds_many (λ c. allows (Some 4096) (c.count + 1)) (g2.assign the_limits) Counts_well
-    (λ c k C h. holds_bind k (one name) _ (λ x a. (is_variable x.name ≡ true) × (k < a)) Counts_well
-    (holds_both k (one name) (λ x a. is_variable x.name ≡ true) (λ x a. k < a) (holds_name k) (holds_some k name names refl begins_name))
-    (λ x a n. holds_bind a (one (marked s.Equals)) _ (λ _ b. a < b) Counts_well (holds_some a (marked s.Equals) (same s.Equals) refl (begins_mark s.Equals))
+    (λ c k C h. holds_bind k (g2.target the_limits) _ (SoundTarget k) Counts_well (target_sound k)
+    (λ t a T. holds_bind a (one (marked s.Equals)) _ (λ _ b. a < b) Counts_well (holds_some a (marked s.Equals) (same s.Equals) refl (begins_mark s.Equals))
     (λ _ b more. holds_bind b (g.expr 256 (Some 63)) _ (Sound (Some 63) b) Counts_well (expr_sound 256 (Some 63) b)
     (λ e d S. holds_bind d (one (marked s.LineEnd)) _ (λ _ z. d ≤ z) Counts_well (holds_any d _)
-    (λ _ z after. holds_gives z (assigned c x e) Counts_well (longer (assigned c x e) d z after (assigned_is c x e k a b d C h n.0 n.1 more S)))))))
+    (λ _ z after. holds_gives z (assigned c t e) Counts_well (longer (assigned c t e) d z after (assigned_is c t e k a b d C h T more S)))))))
     no_stmts m (record { is = refl; few = omega arith; depths = omega arith; blocks = omega arith; loops = refl; readable = refl; few_nodes = omega arith })
 
 -- ---- declarations
@@ -460,13 +493,14 @@ size_of : (k : Kind) → is_size_of k (bytes_of k) ≡ true
 size_of Index = refl
 size_of Ring = refl
 
-declared_well : (ds : List Decl) (line : ℕ) (k : Kind) (i : Intent) (x : Word) → nat_le (length ds + 1) 512 ≡ true → is_variable x.name ≡ true → Declares_well ds → Declares_well (declared ds line k i x)
-declared_well ds line k i x h named D =
-    let d : Decl = record { line = line; name = x.name; kind = k; bytes = bytes_of k; intent = i; dims = [] } in
+declared_well : (ds : List Decl) (line : ℕ) (k : Kind) (i : Intent) (x : Word) (dims : List Dim) → nat_le (length ds + 1) 512 ≡ true → is_variable x.name ≡ true → list_all is_readable_dim dims ≡ true → Declares_well ds →
+    Declares_well (declared ds line k i x dims)
+declared_well ds line k i x dims h named shaped D =
+    let d : Decl = record { line = line; name = x.name; kind = k; bytes = bytes_of k; intent = i; dims = dims } in
     let size = length-append ds (d ∷ []) in
     record {
       few = grind (arith, nat_tests);
-      readable = list_all-append is_readable_decl ds (d ∷ []) ∙ and_true _ _ D.readable (and_true _ _ (and_true _ _ named (and_true _ _ (size_of k) refl)) refl);
+      readable = list_all-append is_readable_decl ds (d ∷ []) ∙ and_true _ _ D.readable (and_true _ _ (and_true _ _ named (and_true _ _ (size_of k) shaped)) refl);
     }
 
 decls_well : (m : ℕ) → Holds m (g2.decls the_limits) (λ ds k. Declares_well ds)
@@ -476,14 +510,16 @@ decls_well m = holds_many (g2.may_declare the_limits) (g2.decl the_limits) (λ d
     (λ line b _. holds_bind b g2.kind _ (λ _ c. b ≤ c) (λ es k. Declares_well es) (holds_any b _)
     (λ kind c _. holds_bind c g2.intent _ (λ _ e. c ≤ e) (λ es k. Declares_well es) (holds_any c _)
     (λ i e _. holds_bind e (one name) _ (λ x k. is_variable x.name ≡ true) (λ es k. Declares_well es) (holds_name e)
-    (λ x f named. holds_bind f (g2.items the_limits line kind i (declared ds line kind i x)) _ (λ es k. Declares_well es) (λ es k. Declares_well es)
+    (λ x o named. holds_bind o g3.shape _ AreDims (λ es k. Declares_well es) (shape_is o)
+    (λ dims f shaped. holds_bind f (g2.items the_limits line kind i (declared ds line kind i x dims)) _ (λ es k. Declares_well es) (λ es k. Declares_well es)
     (holds_many (g2.may_declare the_limits) (g2.another_item the_limits line kind i) (λ es k. Declares_well es)
     (λ es k E r. holds_bind k (one (marked s.Comma)) _ (λ _ n. k ≤ n) (λ es n. Declares_well es) (holds_any k _)
     (λ _ n _. holds_bind n (one name) _ (λ y k. is_variable y.name ≡ true) (λ es n. Declares_well es) (holds_name n)
-    (λ y n called. holds_gives n (declared es line kind i y) (λ es n. Declares_well es) (declared_well es line kind i y r called E))))
-    (declared ds line kind i x) f (declared_well ds line kind i x h named D))
+    (λ y o called. holds_bind o g3.shape _ AreDims (λ es n. Declares_well es) (shape_is o)
+    (λ more_dims n more_shaped. holds_gives n (declared es line kind i y more_dims) (λ es n. Declares_well es) (declared_well es line kind i y more_dims r called more_shaped E)))))
+    (declared ds line kind i x dims) f (declared_well ds line kind i x dims h named shaped D))
     (λ found n F. holds_bind n (one (marked s.LineEnd)) _ (λ _ k. n ≤ k) (λ es k. Declares_well es) (holds_any n _)
-    (λ _ k _. holds_gives k found (λ es k. Declares_well es) F)))))))
+    (λ _ k _. holds_gives k found (λ es k. Declares_well es) F))))))))
     [] m (record { few = omega arith; readable = refl })
 
 -- ---- the unit

@@ -1,10 +1,10 @@
 -- A unit is read exactly.
-use Rattle.std.proofs.Common.{◌≡◌, ℕ, ◌+◌, Bool, true, cond, List, [], ◌∷◌, ◌++◌, length, refl, inl, inr}
+use Rattle.std.proofs.Common.{◌≡◌, ℕ, ◌+◌, Bool, true, cond, List, [], ◌∷◌, ◌++◌, length, refl, inl, inr, nat_lt}
 use Rattle.parsing.specs.declared.symbol.Symbol.{Symbol}
 use Rattle.parsing.specs.declared.symbol.Symbol.TheVariants as s
 use Rattle.parsing.specs.declared.cursor.Word.{Word}
-use Rattle.parsing.specs.declared.fault.Cause.TheVariants.{Expected, Many}
-use Rattle.parsing.specs.Freed.{Freed}
+use Rattle.parsing.specs.declared.fault.Cause.TheVariants.{Expected, Many, Deep}
+use Rattle.parsing.specs.Freed.{Freed, Frees}
 use Rattle.parsing.specs.Limit.{allows, less as fewer}
 use Rattle.parsing.specs.Terminal.{same, on, is, reads, names, words}
 use Rattle.parsing.specs.Reading.{Lexemes, sees}
@@ -17,15 +17,16 @@ use Rattle.fl_ast.specs.declared.decl.Decl.{Decl}
 use Rattle.fl_parser.specs.declared.stmt.Counted.{Counted}
 use Rattle.fl_parser.specs.Terminals.{kind_by}
 use Rattle.fl_parser.specs.Limits.{Limits}
-use Rattle.fl_parser.specs.Trees.{declared, assigned, no_stmts, program}
+use Rattle.fl_parser.specs.Trees.{declared, assigned, no_stmts, program, scalar_target, element_target}
 use Rattle.fl_parser.specs.Wide.{Widens}
 use Rattle.fl_parser.specs.UnitGrammar as g
 use Rattle.fl_parser.specs.UnitReading as p
-use Rattle.parsing.proofs.Outcomes.{never, sees-never, shrinks_pure, shrinks_seq, Bites}
-use Rattle.parsing.proofs.Exact.{Exact, always_room, room_of, frees_less, Begins, Meets, pure_exact, seq, shrinks_token}
-use Rattle.parsing.proofs.Rules.{narrow, anywhere, either, optional, loop_exact, begins_seq, begins_or, begins_opens, Opens, opens_or, opens_gives, opens_begins, opens_many, meets_never, gives_meets, meets_or}
-use Rattle.parsing.proofs.OnSymbols.{less, wider, among, meets, begins_in, begins_mark, begins_name, begins_by, begins_same_word, mark_exact, name_exact, word_exact, same_word_exact, by_exact, mark_then, bites_mark, bites_name}
-use Rattle.fl_parser.proofs.Exprs.{binds, expr_exact}
+use Rattle.parsing.proofs.Outcomes.{never, sees-never, shrinks_pure, shrinks_seq, Bites, Shrinks, bites_seq}
+use Rattle.parsing.proofs.Exact.{Exact, always_room, room_of, frees_less, Begins, Meets, pure_exact, seq, shrinks_token, either_within}
+use Rattle.parsing.proofs.Rules.{narrow, anywhere, either, optional, loop_exact, begins_seq, begins_or, begins_opens, Opens, opens_or, opens_gives, opens_begins, opens_many, meets_never, gives_meets, meets_or, shrinks_optional, mapped}
+use Rattle.parsing.proofs.OnSymbols.{less, wider, among, meets, begins_in, begins_mark, begins_name, begins_by, begins_same_word, mark_exact, name_exact, word_exact, same_word_exact, by_exact, mark_then, bites_mark, bites_name, apart}
+use Rattle.fl_parser.proofs.ExactDims.{shape_exact}
+use Rattle.fl_parser.proofs.Exprs.{binds, expr_exact, brackets_room, list_exact, list_begins, list_bites}
 
 -- ---- declarations
 
@@ -117,10 +118,18 @@ opens_in f h N o wide x us rest n = elim (o x us rest n) [ inl e ↦ inl e | inr
 opens_heads : Opens g.intent (on heads)
 opens_heads = opens_in intents heads _ intent_opens (wider intents heads refl refl)
 
+-- what goes on with the items of a declaration
+abbrev shapes : Symbol → Bool
+shapes = among (s.Comma ∷ s.Open ∷ [])
+
+-- what stands behind an item
+abbrev ends_item : Symbol → Bool
+ends_item = among (s.Comma ∷ s.LineEnd ∷ [])
+
 module _ (l : Freed) (limits wide : Limits) (W : Widens l limits wide) where
-  another_item_exact : (line : ℕ) (k : Kind) (i : Intent) (ds : List Decl) → Exact l (g.another_item limits line k i ds) never (p.another_item limits line k i ds) (p.another_item wide line k i ds)
+  another_item_exact : (line : ℕ) (k : Kind) (i : Intent) (ds : List Decl) → Exact l (g.another_item limits line k i ds) (is s.Open) (p.another_item limits line k i ds) (p.another_item wide line k i ds)
   unfolding g.another_item p.another_item
-  another_item_exact line k i ds = mark_then s.Comma _ _ _ (λ _. seq name_exact (λ x. pure_exact (declared ds line k i x)) (λ x. meets_never never _))
+  another_item_exact line k i ds = mark_then s.Comma _ _ _ (λ _. seq name_exact (λ x. mapped (shape_exact l) (declared ds line k i x)) (λ x. meets_never (is s.Open) _))
 
   another_item_begins : (line : ℕ) (k : Kind) (i : Intent) (ds : List Decl) → Begins (g.another_item limits line k i ds) (is s.Comma)
   unfolding g.another_item
@@ -128,13 +137,13 @@ module _ (l : Freed) (limits wide : Limits) (W : Widens l limits wide) where
 
   another_item_bites : (line : ℕ) (k : Kind) (i : Intent) (ds : List Decl) → Bites (p.another_item wide line k i ds) (is s.Comma)
   unfolding p.another_item
-  another_item_bites line k i ds = bites_mark s.Comma _ (λ _. shrinks_seq _ _ (shrinks_token _) (λ x. shrinks_pure (declared ds line k i x)))
+  another_item_bites line k i ds = bites_mark s.Comma _ (λ _. shrinks_seq _ _ (shrinks_token _) (λ x. shrinks_seq _ _ ((shape_exact l).shrinks) (λ dims. shrinks_pure (declared ds line k i x dims))))
 
-  items_exact : (line : ℕ) (k : Kind) (i : Intent) (ds : List Decl) → Exact l (g.items limits line k i ds) (is s.Comma) (p.items limits line k i ds) (p.items wide line k i ds)
+  items_exact : (line : ℕ) (k : Kind) (i : Intent) (ds : List Decl) → Exact l (g.items limits line k i ds) (on shapes) (p.items limits line k i ds) (p.items wide line k i ds)
   unfolding g.items p.items
-  items_exact line k i = loop_exact l (is s.Comma) never (is s.Comma) (g.may_declare limits) (g.may_declare wide) Many _ _ _
+  items_exact line k i = loop_exact l (is s.Comma) (is s.Open) (on shapes) (g.may_declare limits) (g.may_declare wide) Many _ _ _
       (λ ds. room_of W.names (length ds + 1)) (another_item_exact line k i) (another_item_begins line k i) (another_item_bites line k i)
-      (λ rest h. sees-never rest) (λ rest h. h) (λ rest h. sees-never rest)
+      (less (same s.Open) shapes refl refl) (less (same s.Comma) shapes refl refl) (apart (same s.Comma) (same s.Open) refl refl)
 
   items_open : (line : ℕ) (k : Kind) (i : Intent) (ds : List Decl) → Opens (g.items limits line k i ds) (is s.Comma)
   unfolding g.items
@@ -146,8 +155,12 @@ module _ (l : Freed) (limits wide : Limits) (W : Widens l limits wide) where
   decl_exact ds = mark_then s.Integer _ _ _ (λ line. seq (kind_exact l)
       (λ k. seq (intent_exact l)
       (λ i. seq name_exact
-      (λ x. seq (items_exact line k i (declared ds line k i x)) (λ found. mark_then s.LineEnd _ _ _ (λ _. pure_exact found))
-      (λ found. meets (same s.LineEnd) (same s.Comma) never _ (begins_seq _ (begins_mark s.LineEnd)) refl refl))
+      (λ x. seq (shape_exact l)
+      (λ dims. seq (items_exact line k i (declared ds line k i x dims)) (λ found. mark_then s.LineEnd _ _ _ (λ _. pure_exact found))
+      (λ found. meets (same s.LineEnd) shapes never _ (begins_seq _ (begins_mark s.LineEnd)) refl refl))
+      (λ dims. meets ends_item (same s.Open) never _ (begins_opens (g.items limits line k i (declared ds line k i x dims)) _ (on ends_item)
+      (opens_in (same s.Comma) ends_item _ (items_open line k i (declared ds line k i x dims)) (wider (same s.Comma) ends_item refl refl))
+      (λ found. begins_in (same s.LineEnd) ends_item _ (begins_seq _ (begins_mark s.LineEnd)) refl refl)) refl refl))
       (λ x. meets_never never _))
       (λ i. meets names intents never _ (begins_seq _ begins_name) refl refl))
       (λ k. meets heads (same s.Open) never _
@@ -160,7 +173,7 @@ module _ (l : Freed) (limits wide : Limits) (W : Widens l limits wide) where
   decl_bites : (ds : List Decl) → Bites (p.decl wide ds) (is s.Integer)
   unfolding p.decl
   decl_bites ds = bites_mark s.Integer _ (λ line. shrinks_seq _ _ ((kind_exact l).shrinks) (λ k. shrinks_seq _ _ ((intent_exact l).shrinks) (λ i. shrinks_seq _ _ (shrinks_token _)
-      (λ x. shrinks_seq _ _ ((items_exact line k i (declared ds line k i x)).shrinks) (λ found. shrinks_seq _ _ (shrinks_token _) (λ _. shrinks_pure found))))))
+      (λ x. shrinks_seq _ _ ((shape_exact l).shrinks) (λ dims. shrinks_seq _ _ ((items_exact line k i (declared ds line k i x dims)).shrinks) (λ found. shrinks_seq _ _ (shrinks_token _) (λ _. shrinks_pure found)))))))
 
   decls_exact : Exact l (g.decls limits) (is s.Integer) (p.decls limits) (p.decls wide)
   unfolding g.decls p.decls
@@ -174,21 +187,56 @@ module _ (l : Freed) (limits wide : Limits) (W : Widens l limits wide) where
 
   -- ---- statements
 
+  abbrev F : Frees l Deep (fewer limits.depth) (fewer wide.depth)
+  F = frees_less W.depth
+
+  indexed_target_exact : nat_lt 0 limits.brackets ≡ true → (x : Word) → Exact l (g.indexed_target limits x) never (p.indexed_target limits x) (p.indexed_target wide x)
+  unfolding g.indexed_target p.indexed_target
+  indexed_target_exact so x = seq (list_exact l limits.brackets wide.brackets W.brackets (fewer limits.depth) (fewer wide.depth) F so) (λ found. pure_exact (element_target x found)) (λ found. meets_never never _)
+
+  indexed_target_begins : (x : Word) → Begins (g.indexed_target limits x) (is s.Open)
+  unfolding g.indexed_target
+  indexed_target_begins x = begins_seq _ (list_begins l limits.brackets wide.brackets W.brackets (fewer limits.depth) (fewer wide.depth) F)
+
+  indexed_target_bites : nat_lt 0 wide.brackets ≡ true → (x : Word) → Bites (p.indexed_target wide x) (is s.Open)
+  unfolding p.indexed_target
+  indexed_target_bites so x = bites_seq _ _ (is s.Open) (list_bites l limits.brackets wide.brackets W.brackets (fewer limits.depth) (fewer wide.depth) F so) (λ found. shrinks_pure (element_target x found))
+
+  target_exact : Exact l (g.target limits) (is s.Open) (p.target limits) (p.target wide)
+  unfolding g.target g.after_target p.target p.after_target
+  target_exact = seq name_exact
+      (λ x. either_within (nat_lt 0 limits.brackets) (nat_lt 0 wide.brackets) Deep (brackets_room l limits.brackets wide.brackets W.brackets (fewer limits.depth) (fewer wide.depth) F)
+      (λ so. anywhere (indexed_target_exact so x)) (λ _ so. indexed_target_bites so x)
+      (anywhere (pure_exact (scalar_target x))) (indexed_target_begins x) (gives_meets (scalar_target x) (is s.Open) (is s.Open) (λ rest h. h)))
+      (λ x. meets_never (is s.Open) _)
+
+  target_begins : Begins (g.target limits) (on names)
+  unfolding g.target
+  target_begins = begins_seq _ begins_name
+
   assign_exact : (c : Counted) → Exact l (g.assign limits c) never (p.assign limits c) (p.assign wide c)
   unfolding g.assign p.assign
-  assign_exact c = seq name_exact (λ x. mark_then s.Equals _ _ _ (λ _. seq (expr_exact l limits.brackets wide.brackets W.brackets (fewer limits.depth) (fewer wide.depth) (frees_less W.depth))
-      (λ e. mark_then s.LineEnd _ _ _ (λ _. pure_exact (assigned c x e)))
+  assign_exact c = seq target_exact (λ t. mark_then s.Equals _ _ _ (λ _. seq (expr_exact l limits.brackets wide.brackets W.brackets (fewer limits.depth) (fewer wide.depth) F)
+      (λ e. mark_then s.LineEnd _ _ _ (λ _. pure_exact (assigned c t e)))
       (λ e. meets (same s.LineEnd) binds never _ (begins_seq _ (begins_mark s.LineEnd)) refl refl)))
-      (λ x. meets_never never _)
+      (λ t. meets (same s.Equals) (same s.Open) never _ (begins_seq _ (begins_mark s.Equals)) refl refl)
 
   assign_begins : (c : Counted) → Begins (g.assign limits c) (on names)
   unfolding g.assign
-  assign_begins c = begins_seq _ begins_name
+  assign_begins c = begins_seq _ target_begins
+
+  after_target_shrinks : (x : Word) → Shrinks (p.after_target wide x)
+  unfolding p.after_target
+  after_target_shrinks x = shrinks_optional (is s.Open) (nat_lt 0 wide.brackets) Deep (p.indexed_target wide x) (scalar_target x) (λ so. indexed_target_bites so x)
+
+  target_bites : Bites (p.target wide) (on names)
+  unfolding p.target
+  target_bites = bites_name _ after_target_shrinks
 
   assign_bites : (c : Counted) → Bites (p.assign wide c) (on names)
   unfolding p.assign
-  assign_bites c = bites_name _ (λ x. shrinks_seq _ _ (shrinks_token _) (λ _. shrinks_seq _ _ ((expr_exact l limits.brackets wide.brackets W.brackets (fewer limits.depth) (fewer wide.depth) (frees_less W.depth)).shrinks)
-      (λ e. shrinks_seq _ _ (shrinks_token _) (λ _. shrinks_pure (assigned c x e)))))
+  assign_bites c = bites_seq _ _ (on names) target_bites (λ t. shrinks_seq _ _ (shrinks_token _) (λ _. shrinks_seq _ _ ((expr_exact l limits.brackets wide.brackets W.brackets (fewer limits.depth) (fewer wide.depth) F).shrinks)
+      (λ e. shrinks_seq _ _ (shrinks_token _) (λ _. shrinks_pure (assigned c t e)))))
 
   stmts_exact : Exact l (g.stmts limits) (on names) (p.stmts limits) (p.stmts wide)
   unfolding g.stmts p.stmts

@@ -143,3 +143,8 @@ module _ (may_open : Bool) (inner : Limit → Grammar Measured) where
 unfoldable pub expr : ℕ → Limit → Grammar Measured
 expr zero = sum false (λ d x us. ⊥)
 expr (suc b) = sum true (expr b)
+
+-- what an expression in brackets is, with so many brackets to open
+unfoldable pub below : ℕ → Limit → Grammar Measured
+below zero = λ d x us. ⊥
+below (suc b) = expr b

@@ -1,3 +1,5 @@
+pub mod DimGrammar
+pub mod DimReading
 pub mod ExprGrammar
 pub mod ExprReading
 pub mod Limits

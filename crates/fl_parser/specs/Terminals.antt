@@ -1,6 +1,8 @@
 -- What some tokens are read as.
 use Rattle.std.specs.Prelude.{Bool, Option, Some, None}
 use Rattle.tokens.specs.Lexeme.{Lexeme}
+use Rattle.fl_ast.specs.declared.decl.Sign.{Sign}
+use Rattle.fl_ast.specs.declared.decl.Sign.TheVariants as sign
 use Rattle.fl_ast.specs.declared.kind.Kind.{Kind}
 use Rattle.fl_ast.specs.declared.kind.Kind.TheVariants.{Index, Ring}
 use Rattle.fl_ast.specs.declared.kind.BinOp.{BinOp}
@@ -10,7 +12,7 @@ use Rattle.fl_ast.specs.declared.kind.Fun.TheVariants as fun
 use Rattle.parsing.specs.declared.symbol.Symbol.{Symbol}
 use Rattle.parsing.specs.declared.symbol.Symbol.TheVariants as s
 use Rattle.parsing.specs.declared.cursor.Number.{Number}
-use Rattle.parsing.specs.Terminal.{by, on, reads, small_number}
+use Rattle.parsing.specs.Terminal.{by, on, reads, small_number, plain_number}
 
 abbrev pub sum_op_by : Symbol → Option BinOp
 sum_op_by s.Plus = Some Add
@@ -69,3 +71,18 @@ is_single = on (reads single_by)
 -- an exponent is at most 2^31-1
 abbrev pub exponent : Lexeme → Option Number
 exponent = small_number 2147483647
+
+-- a number in a bound of a declaration is at most 2^32-1
+abbrev pub bound_number : Lexeme → Option Number
+bound_number = plain_number 4294967295
+
+abbrev pub sign_by : Symbol → Option Sign
+sign_by s.Plus = Some sign.Plus
+sign_by s.Minus = Some sign.Minus
+sign_by _ = None
+
+abbrev pub bound_sign : Lexeme → Option Sign
+bound_sign = by sign_by
+
+abbrev pub is_bound_sign : Lexeme → Bool
+is_bound_sign = on (reads sign_by)

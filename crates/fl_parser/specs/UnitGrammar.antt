@@ -1,5 +1,5 @@
 -- The grammar of a unit.
-use Rattle.std.specs.Prelude.{ℕ, ◌+◌, Bool, true, List, [], ◌∷◌, ◌++◌, length}
+use Rattle.std.specs.Prelude.{ℕ, nat_lt, ◌+◌, Bool, true, List, [], ◌∷◌, ◌++◌, length}
 use Rattle.fl_ast.specs.declared.kind.Kind.{Kind}
 use Rattle.fl_ast.specs.declared.kind.Kind.TheVariants.{Index}
 use Rattle.fl_ast.specs.declared.kind.Intent.{Intent}
@@ -10,11 +10,14 @@ use Rattle.parsing.specs.declared.symbol.Symbol.TheVariants as s
 use Rattle.parsing.specs.Limit.{allows, less}
 use Rattle.parsing.specs.Terminal.{marked, name, word, same_word}
 use Rattle.parsing.specs.Grammar.{Grammar, ◌>>=◌, gives, one, ◌or◌, where_, many}
+use Rattle.parsing.specs.declared.cursor.Word.{Word}
 use Rattle.fl_parser.specs.declared.stmt.Counted.{Counted}
+use Rattle.fl_parser.specs.declared.stmt.TargetPlace.{TargetPlace}
 use Rattle.fl_parser.specs.Terminals.{kind_number}
 use Rattle.fl_parser.specs.Limits.{Limits}
-use Rattle.fl_parser.specs.Trees.{declared, assigned, no_stmts, program}
-use Rattle.fl_parser.specs.ExprGrammar.{expr}
+use Rattle.fl_parser.specs.Trees.{declared, scalar_target, element_target, assigned, no_stmts, program}
+use Rattle.fl_parser.specs.DimGrammar.{shape}
+use Rattle.fl_parser.specs.ExprGrammar.{expr, below, subscripts}
 
 -- ---- declarations
 
@@ -101,19 +104,21 @@ module _ (limits : Limits) where
   another_item line k i ds = do
     comma ← one (marked s.Comma)
     x ← one name
-    gives (declared ds line k i x)
+    dims ← shape
+    gives (declared ds line k i x dims)
 
   unfoldable pub items : ℕ → Kind → Intent → List Decl → Grammar (List Decl)
   items line k i = many (λ ds. where_ (may_declare ds) (another_item line k i ds))
 
-  -- "integer" [ kind ] [ intent ] name { "," name } eol
+  -- "integer" [ kind ] [ intent ] item { "," item } eol
   unfoldable pub decl : List Decl → Grammar (List Decl)
   decl ds = do
     line ← one (marked s.Integer)
     k ← kind
     i ← intent
     x ← one name
-    found ← items line k i (declared ds line k i x)
+    dims ← shape
+    found ← items line k i (declared ds line k i x dims)
     eol ← one (marked s.LineEnd)
     gives found
 
@@ -122,14 +127,28 @@ module _ (limits : Limits) where
 
   -- ---- statements
 
-  -- name "=" expr eol
+  unfoldable pub indexed_target : Word → Grammar TargetPlace
+  indexed_target x = do
+    found ← subscripts (nat_lt 0 limits.brackets) (below limits.brackets) (less limits.depth)
+    gives (element_target x found)
+
+  unfoldable pub after_target : Word → Grammar TargetPlace
+  after_target x = where_ (nat_lt 0 limits.brackets) (indexed_target x) or gives (scalar_target x)
+
+  -- name [ "(" expr {"," expr} ")" ]; each subscript is an expression of its own
+  unfoldable pub target : Grammar TargetPlace
+  target = do
+    x ← one name
+    after_target x
+
+  -- place "=" expr eol
   unfoldable pub assign : Counted → Grammar Counted
   assign c = do
-    x ← one name
+    t ← target
     equals ← one (marked s.Equals)
     e ← expr limits.brackets (less limits.depth)
     eol ← one (marked s.LineEnd)
-    gives (assigned c x e)
+    gives (assigned c t e)
 
   unfoldable pub stmts : Grammar Counted
   stmts = many (λ c. where_ (allows limits.statements (c.count + 1)) (assign c)) no_stmts

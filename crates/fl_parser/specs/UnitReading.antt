@@ -1,5 +1,5 @@
 -- How a unit is read.
-use Rattle.std.specs.Prelude.{ℕ, ◌+◌, Bool, true, List, [], ◌∷◌, ◌++◌, length}
+use Rattle.std.specs.Prelude.{ℕ, nat_lt, ◌+◌, Bool, true, List, [], ◌∷◌, ◌++◌, length}
 use Rattle.fl_ast.specs.declared.kind.Kind.{Kind}
 use Rattle.fl_ast.specs.declared.kind.Kind.TheVariants.{Index}
 use Rattle.fl_ast.specs.declared.kind.Intent.{Intent}
@@ -7,15 +7,18 @@ use Rattle.fl_ast.specs.declared.kind.Intent.TheVariants.{Unsaid, ReadOnly, Writ
 use Rattle.fl_ast.specs.declared.decl.Decl.{Decl}
 use Rattle.fl_ast.specs.declared.stmt.Program.{Program}
 use Rattle.parsing.specs.declared.symbol.Symbol.TheVariants as s
-use Rattle.parsing.specs.declared.fault.Cause.TheVariants.{Expected, Many}
+use Rattle.parsing.specs.declared.fault.Cause.TheVariants.{Expected, Deep, Many}
 use Rattle.parsing.specs.Limit.{allows, less}
 use Rattle.parsing.specs.Terminal.{is, on, marked, names, name, words, word, same_word}
-use Rattle.parsing.specs.Reading.{Parser, ◌>>=◌, pure, token, choose, loop}
+use Rattle.parsing.specs.Reading.{Parser, ◌>>=◌, pure, token, choose, within, loop}
+use Rattle.parsing.specs.declared.cursor.Word.{Word}
 use Rattle.fl_parser.specs.declared.stmt.Counted.{Counted}
+use Rattle.fl_parser.specs.declared.stmt.TargetPlace.{TargetPlace}
 use Rattle.fl_parser.specs.Terminals.{kind_number}
 use Rattle.fl_parser.specs.Limits.{Limits}
-use Rattle.fl_parser.specs.Trees.{declared, assigned, no_stmts, program}
-use Rattle.fl_parser.specs.ExprReading.{expr}
+use Rattle.fl_parser.specs.Trees.{declared, scalar_target, element_target, assigned, no_stmts, program}
+use Rattle.fl_parser.specs.DimReading.{shape}
+use Rattle.fl_parser.specs.ExprReading.{expr, below, subscripts}
 
 -- ---- declarations
 
@@ -94,7 +97,8 @@ module _ (limits : Limits) where
   another_item line k i ds = do
     comma ← token (marked s.Comma)
     x ← token name
-    pure (declared ds line k i x)
+    dims ← shape
+    pure (declared ds line k i x dims)
 
   unfoldable pub items : ℕ → Kind → Intent → List Decl → Parser (List Decl)
   items line k i = loop (is s.Comma) may_declare Many (another_item line k i)
@@ -105,7 +109,8 @@ module _ (limits : Limits) where
     k ← kind
     i ← intent
     x ← token name
-    found ← items line k i (declared ds line k i x)
+    dims ← shape
+    found ← items line k i (declared ds line k i x dims)
     eol ← token (marked s.LineEnd)
     pure found
 
@@ -114,13 +119,26 @@ module _ (limits : Limits) where
 
   -- ---- statements
 
+  unfoldable pub indexed_target : Word → Parser TargetPlace
+  indexed_target x = do
+    found ← subscripts (nat_lt 0 limits.brackets) (below limits.brackets) (less limits.depth)
+    pure (element_target x found)
+
+  unfoldable pub after_target : Word → Parser TargetPlace
+  after_target x = choose (is s.Open) (within (nat_lt 0 limits.brackets) Deep (indexed_target x)) (pure (scalar_target x))
+
+  unfoldable pub target : Parser TargetPlace
+  target = do
+    x ← token name
+    after_target x
+
   unfoldable pub assign : Counted → Parser Counted
   assign c = do
-    x ← token name
+    t ← target
     equals ← token (marked s.Equals)
     e ← expr limits.brackets (less limits.depth)
     eol ← token (marked s.LineEnd)
-    pure (assigned c x e)
+    pure (assigned c t e)
 
   unfoldable pub stmts : Parser Counted
   stmts = loop (on names) (λ c. allows limits.statements (c.count + 1)) Many assign no_stmts

@@ -8,8 +8,9 @@ ghost use Rattle.fl_parser.specs.Terminals as terminals;
 ghost use Rattle.fl_parser.specs.Trees as trees;
 ghost use Rattle.fl_parser.specs.UnitReading as spec;
 
+use crate::dims::shape;
 use crate::limit::{Limits, has_room};
-use fl_ast::{Decl, Intent, Kind, bytes_of};
+use fl_ast::{Decl, Dim, Intent, Kind, bytes_of};
 use fl_base::{Items, Memory};
 use parsing::{Cause, Cursor, Failure, Symbol, Word};
 use std::alloc::Global;
@@ -23,12 +24,12 @@ struct Head {
 }
 
 fn declared(
-    alloc: Global,
     mut found: Items<Decl>,
     head: Head,
     word: Word,
+    dims: Items<Dim>,
 ) -> Result<Items<Decl>, Memory>
-    ensures { IfOk result (λ x. x ≡ trees.declared found head.line head.kind head.intent word) }
+    ensures { IfOk result (λ x. x ≡ trees.declared found head.line head.kind head.intent word dims) }
 {
     found.push(Decl {
         line: head.line,
@@ -36,7 +37,7 @@ fn declared(
         kind: head.kind,
         bytes: bytes_of(head.kind),
         intent: head.intent,
-        dims: Items::new(alloc),
+        dims,
     })?;
     Ok(found)
 }
@@ -168,7 +169,8 @@ fn another_item(
 {
     let _comma = tokens.mark(Symbol::Comma)?;
     let word = tokens.name(alloc)?;
-    Ok(declared(alloc, found, head, word)?)
+    let dims = shape(alloc, tokens)?;
+    Ok(declared(found, head, word, dims)?)
 }
 
 fn items(
@@ -206,7 +208,8 @@ fn decl(
     let intent = intent(tokens)?;
     let head = Head { line, kind, intent };
     let word = tokens.name(alloc)?;
-    let first = declared(alloc, found, head, word)?;
+    let dims = shape(alloc, tokens)?;
+    let first = declared(found, head, word, dims)?;
     let found = items(alloc, tokens, limits, head, first)?;
     let _eol = tokens.mark(Symbol::LineEnd)?;
     Ok(found)

@@ -8,7 +8,7 @@ ghost use Rattle.fl_parser.specs.Terminals as terminals;
 ghost use Rattle.fl_parser.specs.Trees as trees;
 ghost use Rattle.fl_parser.specs.Nests.{Nests};
 
-use crate::tree::{Measured, binary, negation};
+use crate::tree::{Listed, Measured, binary, negation};
 use fl_ast::BinOp;
 use parsing::{Cause, Cursor, Failure, Symbol};
 use std::alloc::Global;
@@ -207,6 +207,25 @@ impl<F: Fn(Global, &mut Cursor<'_>, usize, usize) -> Result<Measured, Failure>> 
         }
         self.unsigned(tokens, d)
     }
+}
+
+/// A list of expressions in brackets, with so many brackets to open and so many levels beneath each root.
+pub fn subscripts(
+    alloc: Global,
+    tokens: &mut Cursor<'_>,
+    brackets: usize,
+    d: usize,
+) -> Result<Listed, Failure>
+    requires few { d < 2 ^ 32 }
+    requires room { 0 < brackets }
+    ensures { Reads (spec.subscripts (nat_lt 0 brackets) (spec.below brackets) (Some d) tokens.old) result tokens.new }
+{
+    Rules {
+        alloc,
+        brackets,
+        expr,
+    }
+    .subscripts(tokens, d)
 }
 
 /// An expression with so many brackets to open and so many levels beneath its root.

@@ -2,6 +2,7 @@
 #![tactic(auto)]
 
 mod decl;
+mod dims;
 mod error;
 mod expr;
 mod limit;

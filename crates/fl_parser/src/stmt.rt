@@ -6,13 +6,20 @@ ghost use Rattle.fl_parser.specs.Limits.{limits_of};
 ghost use Rattle.fl_parser.specs.Trees as trees;
 ghost use Rattle.fl_parser.specs.UnitReading as spec;
 
-use crate::expr::expr;
+use crate::expr::{expr, subscripts};
 use crate::limit::{Limits, has_room};
-use crate::tree::Measured;
+use crate::tree::{Listed, Measured};
 use fl_ast::{Place, Stmt};
 use fl_base::{Items, Memory};
 use parsing::{Cause, Cursor, Failure, Symbol, Word};
 use std::alloc::Global;
+
+/// What an assignment sets.
+#[derive(Drop)]
+pub struct TargetPlace {
+    pub line: u32,
+    pub place: Place,
+}
 
 /// Statements, and how many there are in them.
 #[derive(Drop)]
@@ -30,26 +37,86 @@ fn no_stmts(alloc: Global) -> Counted
     }
 }
 
-fn assigned(
-    alloc: Global,
-    mut found: Counted,
-    target: Word,
-    value: Measured,
-) -> Result<Counted, Memory>
+fn assigned(mut found: Counted, target: TargetPlace, value: Measured) -> Result<Counted, Memory>
     requires { found.count + 1 < 2 ^ 64 }
     ensures { IfOk result (λ x. x ≡ trees.assigned found target value) }
 {
     found.stmts.push(Stmt::Assign {
         line: target.line,
         atomic: false,
-        target: Place {
-            name: target.name,
-            subscripts: Items::new(alloc),
-        },
+        target: target.place,
         value: value.expr.into_inner(),
     })?;
     found.count += 1;
     Ok(found)
+}
+
+fn scalar_target(alloc: Global, word: Word) -> TargetPlace
+    ensures { result ≡ trees.scalar_target word }
+{
+    TargetPlace {
+        line: word.line,
+        place: Place {
+            name: word.name,
+            subscripts: Items::new(alloc),
+        },
+    }
+}
+
+fn element_target(word: Word, list: Listed) -> TargetPlace
+    ensures { result ≡ trees.element_target word list }
+{
+    TargetPlace {
+        line: word.line,
+        place: Place {
+            name: word.name,
+            subscripts: list.exprs,
+        },
+    }
+}
+
+#[tactic(auto, unfolding(crate::specs::UnitReading::indexed_target))]
+fn indexed_target(
+    alloc: Global,
+    tokens: &mut Cursor<'_>,
+    limits: Limits,
+    word: Word,
+) -> Result<TargetPlace, Failure>
+    requires shallow { limits.depth < 2 ^ 32 }
+    requires room { 0 < limits.brackets }
+    ensures { Reads (spec.indexed_target (limits_of limits) word tokens.old) result tokens.new }
+{
+    let beneath = limits.depth.saturating_sub(1);
+    let list = subscripts(alloc, tokens, limits.brackets, beneath)?;
+    Ok(element_target(word, list))
+}
+
+#[tactic(auto, unfolding(crate::specs::UnitReading::after_target))]
+fn after_target(
+    alloc: Global,
+    tokens: &mut Cursor<'_>,
+    limits: Limits,
+    word: Word,
+) -> Result<TargetPlace, Failure>
+    requires { limits.depth < 2 ^ 32 }
+    ensures { Reads (spec.after_target (limits_of limits) word tokens.old) result tokens.new }
+{
+    if tokens.sees(Symbol::Open) {
+        if limits.brackets == 0 {
+            return Err(tokens.refuse(Cause::Deep));
+        }
+        return indexed_target(alloc, tokens, limits, word);
+    }
+    Ok(scalar_target(alloc, word))
+}
+
+#[tactic(auto, unfolding(crate::specs::UnitReading::target))]
+fn target(alloc: Global, tokens: &mut Cursor<'_>, limits: Limits) -> Result<TargetPlace, Failure>
+    requires { limits.depth < 2 ^ 32 }
+    ensures { Reads (spec.target (limits_of limits) tokens.old) result tokens.new }
+{
+    let word = tokens.name(alloc)?;
+    after_target(alloc, tokens, limits, word)
 }
 
 #[tactic(auto, unfolding(crate::specs::UnitReading::assign))]
@@ -64,7 +131,7 @@ fn assign(
     ensures reads { Reads (spec.assign (limits_of limits) found tokens.old) result tokens.new }
     ensures count { IfOk result (λ x. x.count ≡ found.count + 1) }
 {
-    let target = tokens.name(alloc)?;
+    let target = target(alloc, tokens, limits)?;
     let _equals = tokens.mark(Symbol::Equals)?;
     let value = expr(
         alloc,
@@ -73,7 +140,7 @@ fn assign(
         limits.depth.saturating_sub(1),
     )?;
     let _eol = tokens.mark(Symbol::LineEnd)?;
-    Ok(assigned(alloc, found, target, value)?)
+    Ok(assigned(found, target, value)?)
 }
 
 pub fn stmts(alloc: Global, tokens: &mut Cursor<'_>, limits: Limits) -> Result<Counted, Failure>

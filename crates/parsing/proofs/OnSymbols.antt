@@ -13,7 +13,7 @@ use Rattle.parsing.specs.declared.cursor.Number.{Number}
 use Rattle.parsing.specs.Symbol.{Entry, look_up, kind_numbers, words as word_table, symbol_of, symbol_by}
 use Rattle.parsing.proofs.Table.{same_bytes}
 use Rattle.parsing.specs.Example.{example}
-use Rattle.parsing.specs.Terminal.{code, same, on, is, marked, by, some, reads, names, word_of, name, words, word, number_by, numbers, number, at_most, small_number, same_word}
+use Rattle.parsing.specs.Terminal.{code, same, on, is, marked, by, some, reads, names, word_of, name, words, word, number_by, numbers, number, at_most, small_number, same_word, without_eight, plain_number}
 use Rattle.parsing.specs.Reading.{Lexemes, Parser, ◌>>=◌ as ◌▷◌, sees, token}
 use Rattle.parsing.specs.Grammar.{Grammar, one, ◌>>=◌ as ◌⨟◌}
 use Rattle.parsing.proofs.Outcomes.{never, differ, Bites, Shrinks, bites_seq}
@@ -289,6 +289,11 @@ small_number_exact most =
     let nought : Number = record { value = 0; suffix = None } in
     token_exact (small_number most) nought (example s.Number) (ap (λ b. cond b (Some nought) None) (least most))
 
+pub plain_number_exact : {l : Freed} (most : ℕ) → Exact l (one (plain_number most)) never (token (plain_number most)) (token (plain_number most))
+plain_number_exact most =
+    let nought : Number = record { value = 0; suffix = None } in
+    token_exact (plain_number most) nought (example s.Number) (ap (λ b. cond (b && true) (Some nought) None) (least most))
+
 -- a token that reads by its symbol
 pub by_exact : {A : Type 0} {l : Freed} (read : Symbol → Option A) (a : Symbol) (x : A) → read a ≡ Some x → Exact l (one (by read)) never (token (by read)) (token (by read))
 by_exact read a x e = token_exact (by read) x (example a) (ap read (example_is a) ∙ e)
@@ -344,6 +349,13 @@ some_small most (Some n) x e = (n, refl)
 
 pub begins_small_number : (most : ℕ) → Begins (one (small_number most)) (on numbers)
 begins_small_number most = begins_one (small_number most) (on numbers) (λ t x h. let n = some_small most (number t) x h in number_symbol t.kind t.bytes n.0 n.1)
+
+plain_some : (most : ℕ) (o : Option Number) (x : Number) → without_eight most o ≡ Some x → (n : Number) × (o ≡ Some n)
+plain_some most None x e = cc
+plain_some most (Some n) x e = (n, refl)
+
+pub begins_plain_number : (most : ℕ) → Begins (one (plain_number most)) (on numbers)
+begins_plain_number most = begins_one (plain_number most) (on numbers) (λ t x h. let n = plain_some most (number t) x h in number_symbol t.kind t.bytes n.0 n.1)
 
 pub begins_word : Begins (one word) (on words)
 begins_word = begins_one word (on words) (λ t x h. cond_some (on words t) (word_of t) x h)

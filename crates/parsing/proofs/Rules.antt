@@ -8,7 +8,7 @@ use Rattle.parsing.specs.declared.fault.Fault.{Fault}
 use Rattle.parsing.specs.Freed.{Freed}
 use Rattle.parsing.specs.Reading.{◌>>=◌ as ◌▷◌, Lexemes, Outcome, Parser, and_then, sees, fault, choose, within, turns, loop, pure}
 use Rattle.parsing.specs.Grammar.{◌>>=◌ as ◌⨟◌, Grammar, gives, ◌or◌, where_, times, many}
-use Rattle.parsing.proofs.Outcomes.{first, append_split, never, sees-never, which, differ, err_is, choose_true, choose_false, Within, Shrinks, shrinks_pure, shrinks_seq, Bites, bites_seq}
+use Rattle.parsing.proofs.Outcomes.{first, append_split, never, sees-never, which, differ, err_is, choose_true, choose_false, Within, within_past, Shrinks, shrinks_pure, shrinks_seq, Bites, bites_seq, append_nil}
 use Rattle.parsing.proofs.Exact.{Exact, Room, always_room, Begins, Meets, Steady, Stuck, pure_exact, seq, either_within}
 
 -- ---- fewer tokens that may follow, and other words for the same grammar
@@ -97,6 +97,9 @@ optional {test = test} a P begins less = either P (anywhere (pure_exact a)) begi
 pub mapped : {A B : Type 0} {l : Freed} {N : Grammar A} {after : Lexeme → Bool} {q q2 : Parser A} → Exact l N after q q2 → (f : A → B) →
     Exact l (N ⨟ (λ x. gives (f x))) after (q ▷ (λ x. pure (f x))) (q2 ▷ (λ x. pure (f x)))
 mapped {after = after} P f = seq P (λ x. anywhere (pure_exact (f x))) (λ x. gives_meets (f x) after after (λ rest h. h))
+
+pub meets_mapped : {A B : Type 0} (N : Grammar A) (f : A → B) (before after : Lexeme → Bool) → Meets N before after → Meets (N ⨟ (λ x. gives (f x))) before after
+meets_mapped N f before after m z us rest (x, vs, ws, n, r, e) h = ap (λ v. sees before (v ++ rest)) (e ∙ ap (λ w. vs ++ w) r.1 ∙ append_nil vs) ∙ m x vs rest n h
 
 -- ---- the same step again and again
 
@@ -234,6 +237,15 @@ shrinks_turns {A} test room cause step steps (suc n) left ts = by (shrinks_seq (
 
 pub shrinks_loop : {A : Type 0} (test : Lexeme → Bool) (room : A → Bool) (cause : Cause) (step : A → Parser A) → ((x : A) → Shrinks (step x)) → (left : A) → Shrinks (loop test room cause step left)
 shrinks_loop test room cause step steps left ts = shrinks_turns test room cause step steps (length ts) left ts
+
+-- something behind a first token, where there is room; else nothing
+pub shrinks_optional : {A : Type 0} (test : Lexeme → Bool) (room : Bool) (cause : Cause) (q : Parser A) (a : A) → (room ≡ true → Bites q test) → Shrinks (choose test (within room cause q) (pure a))
+shrinks_optional {A} test room cause q a bites ts = by (sees test ts) refl room refl
+  where
+    by : (b : Bool) → sees test ts ≡ b → (r : Bool) → room ≡ r → Within (cond b (within r cause q ts) (pure a ts)) (length ts)
+    by true h true k = within_past (q ts) (length ts) (bites k ts h)
+    by true h false k = omega arith
+    by false h r k = omega arith
 
 -- ---- what may be empty
 

@@ -1,5 +1,5 @@
 -- What readers ask of a token.
-use Rattle.std.specs.Prelude.{ℕ, Bool, true, false, ◌&&◌, ◌==◌, nat_le, bytes_eq, List, Option, Some, None, if◌then◌else◌}
+use Rattle.std.specs.Prelude.{ℕ, Bool, true, false, not, ◌&&◌, ◌==◌, nat_le, bytes_eq, List, Option, Some, None, if◌then◌else◌}
 use Rattle.std.specs.Str.{str_to_ascii_lowercase}
 use Rattle.tokens.specs.declared.TokenKind.{TokenKind}
 use Rattle.tokens.specs.declared.TokenKind.TheVariants as kind
@@ -207,3 +207,17 @@ at_most most (Some n) = if nat_le n.value most then Some n else None
 -- a number that is at most so much
 abbrev pub small_number : ℕ → Lexeme → Option Number
 small_number most t = at_most most (number t)
+
+-- the suffix `_8`
+abbrev pub is_eight : Option ℕ → Bool
+is_eight None = false
+is_eight (Some n) = n == 8
+
+-- where it is at most so much, and has no suffix `_8`
+abbrev pub without_eight : ℕ → Option Number → Option Number
+without_eight most None = None
+without_eight most (Some n) = if nat_le n.value most && not (is_eight n.suffix) then Some n else None
+
+-- a number that is at most so much, without the suffix `_8`
+abbrev pub plain_number : ℕ → Lexeme → Option Number
+plain_number most t = without_eight most (number t)

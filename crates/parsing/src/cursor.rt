@@ -200,6 +200,26 @@ impl<'a> Cursor<'a> {
         Err(self.refuse(Cause::Expected))
     }
 
+    /// Takes a number that is at most so much and has no suffix `_8`.
+    pub fn plain_number(&mut self, most: u64) -> Result<Number, Failure>
+        ensures reads { Reads (reading.token (terminal.plain_number most) self.old) result self.new }
+        ensures value { IfOk result (λ n. n.value ≤ most) }
+        ensures sure { result ≢ Err Failure.Memory }
+    {
+        if let [token, rest @ ..] = self.rest {
+            if let TokenKind::Number { value, suffix } = token.kind {
+                if value <= most {
+                    if suffix != Some(8) {
+                        self.rest = rest;
+                        self.ahead = first_symbol(self.text, rest);
+                        return Ok(Number { value, suffix });
+                    }
+                }
+            }
+        }
+        Err(self.refuse(Cause::Expected))
+    }
+
     /// Takes a name of a variable.
     pub fn name(&mut self, alloc: Global) -> Result<Word, Failure>
         ensures reads { Reads (reading.token terminal.name self.old) result self.new }

@@ -1,0 +1,10 @@
+use Rattle.std.proofs.Common.{◌≡◌, ◌-◌, true}
+use Rattle.parsing.specs.declared.symbol.Symbol.TheVariants as s
+use Rattle.parsing.specs.declared.fault.Cause.TheVariants.{Expected}
+use Rattle.parsing.specs.Terminal.{is}
+use Rattle.parsing.specs.Reading.{turns}
+use Rattle.fl_parser.specs.DimReading as spec
+use Rattle.fl_parser.proofs.dims.more_dims.Given as goal
+
+abbrev pub invariant-loop-turn : goal.invariant-loop-turn
+invariant-loop-turn l = spec.more_dims l.fn.found l.initial.tokens ≡ turns (is s.Comma) (λ x. true) Expected spec.another_dim (l._turn-end - l._turn) l.found l.tokens
