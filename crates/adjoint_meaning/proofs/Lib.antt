@@ -1,0 +1,4 @@
+pub mod Cells
+pub mod Evaluation
+pub mod Plain
+pub mod Transposed
