@@ -1,12 +1,12 @@
 -- Cells that are all set, read and written.
-use Rattle.std.proofs.Common.{◌≡◌, ℕ, zero, suc, ◌<◌, List, [], ◌∷◌, length, Option, Some, None, Bool, true, false, refl, ap, sym, ◌∙◌, arith, Result, Ok, Err}
-use Rattle.std.specs.Prelude.{slice_get, slice_index, slice_set, is_some}
+use Rattle.std.proofs.Common.{◌≡◌, ℕ, zero, suc, ◌<◌, List, [], ◌∷◌, length, Option, Some, None, Bool, true, false, refl, ap, sym, arith, Ok}
+use Rattle.std.specs.Prelude.{slice_index, slice_set, is_some}
 use Rattle.std.proofs.lemmas.List.{length-set}
 use Rattle.store_core.proofs.Slots.{first_found}
 use Rattle.fl_types.specs.declared.access.AccessKind.{AccessKind}
 use Rattle.meaning.specs.declared.value.Dual.{Dual}
 use Rattle.meaning.specs.declared.value.Value.{Value}
-use Rattle.meaning.specs.declared.value.Value.TheVariants.{Index, Ring}
+use Rattle.meaning.specs.declared.value.Value.TheVariants.{Ring}
 use Rattle.meaning.specs.Logs.{Traced, ◌>>=◌}
 use Rattle.meaning.specs.Sites.{Cells, Key, Site}
 use Rattle.meaning.specs.Expressions.{content, touching}

@@ -1,31 +1,27 @@
 -- An expression of a straight line: its value, and what the increments of its operands' adjoints are worth.
-use Rattle.std.proofs.Common.{◌≡◌, ℕ, zero, suc, ◌+◌, ◌*◌, ◌<◌, ◌^◌, List, [], ◌∷◌, length, Option, Some, None, Bool, true, false, refl, ap, sym, ◌∙◌, subst, arith, Result, Ok, Err, ℤ, pos, negsuc}
-use Rattle.std.specs.Prelude.{◌&&◌, ◌||◌, nat_lt, slice_index, neg_ℤ, is_some}
+use Rattle.std.proofs.Common.{◌≡◌, ℕ, zero, suc, ◌+◌, ◌*◌, ◌<◌, List, length, Some, Bool, true, false, refl, ap, sym, ◌∙◌, arith, Ok, ℤ, pos, negsuc}
+use Rattle.std.specs.Prelude.{◌||◌, nat_lt, slice_index}
 use Rattle.std.specs.Int.{w64, cast_unsigned}
 use Rattle.std.proofs.lemmas.Bool.{and_parts, ltb-true, lt-ltb}
 use Rattle.ring_core.specs.Ring.{ring_add, ring_sub, ring_mul, ring_neg}
-use Rattle.ring_core.specs.Index.{fitted, fits_index}
-use Rattle.pairing.specs.Ring.{big, last, Same}
+use Rattle.ring_core.specs.Index.{fitted}
+use Rattle.pairing.specs.Ring.{last, Same}
 use Rattle.pairing.specs.Pair.{pair}
 use Rattle.pairing.proofs.Sames.{of_equal, same_sum, same_product, strip_add, strip_sub, strip_mul, strip_neg}
 use Rattle.pairing.proofs.Pairs.{pair_grow}
-use Rattle.fl_ast.specs.declared.kind.Kind.{Kind}
 use Rattle.fl_ast.specs.declared.kind.Kind.TheVariants as kind
 use Rattle.fl_ast.specs.declared.kind.BinOp.{BinOp}
 use Rattle.fl_ast.specs.declared.kind.BinOp.TheVariants.{Add, Sub, Mul, Div}
 use Rattle.fl_ast.specs.declared.decl.Decl.{Decl}
-use Rattle.fl_ast.specs.Tree.{Expression, literal, get, minus, binary, power, call, Expressions, no_expressions, expression}
+use Rattle.fl_ast.specs.Tree.{Expression, literal, get, minus, binary, power, call, no_expressions, expression}
 use Rattle.fl_types.specs.declared.access.AccessKind.TheVariants.{Read}
 use Rattle.fl_types.specs.Supported.{is_ring_expression, is_supported_op, is_supported_expression}
-use Rattle.meaning.specs.declared.value.Dual.{Dual}
 use Rattle.meaning.specs.declared.value.Value.{Value}
 use Rattle.meaning.specs.declared.value.Value.TheVariants.{Index, Ring}
-use Rattle.meaning.specs.declared.value.Cause.{Cause}
-use Rattle.meaning.specs.Values.{as_dual, negated, binary_result, ring_result, literal_value}
-use Rattle.meaning.specs.Logs.{Traced, pure, lift}
-use Rattle.meaning.specs.Sites.{Cells, Site}
+use Rattle.meaning.specs.Values.{as_dual, binary_result, ring_result}
+use Rattle.meaning.specs.Sites.{Site}
 use Rattle.meaning.specs.Expressions.{content, value_of}
-use Rattle.adjoint_meaning.specs.Lines.{scalar_place, with_word, expression_word, left_amount, right_amount, increased}
+use Rattle.adjoint_meaning.specs.Lines.{scalar_place, expression_word, left_amount, right_amount, increased}
 use Rattle.adjoint_meaning.specs.Laws.{duals, AreScalars}
 use Rattle.adjoint_meaning.proofs.Cells.{content_dual, place_within, there, length_with, bound_out, touching_out}
 

@@ -1,12 +1,11 @@
 -- What isn't an increment has no rest terms.
-use Rattle.std.proofs.Common.{◌≡◌, ℕ, List, Bool, true, false, refl, ap, sym, ◌∙◌, arith, Option, Some, None}
-use Rattle.std.specs.Prelude.{◌&&◌, ◌||◌, bytes_eq}
+use Rattle.std.proofs.Common.{◌≡◌, ℕ, List, Bool, true, false, refl, None}
 use Rattle.std.proofs.lemmas.Bool.{or_parts}
 use Rattle.store_core.proofs.Slots.{turned}
 use Rattle.fl_ast.specs.declared.kind.BinOp.TheVariants.{Add, Sub, Mul, Div}
 use Rattle.fl_ast.specs.Tree.{Expression, literal, get, minus, binary, power, call, Expressions, Designator}
 use Rattle.fl_ast.specs.Same.{same_expression}
-use Rattle.fl_types.specs.Increment.{chain, first_of_sum, target_of, rest_terms, increment_terms}
+use Rattle.fl_types.specs.Increment.{chain, first_of_sum, rest_terms, increment_terms}
 use Rattle.fl_types.specs.Supported.{is_name, may_increment}
 
 not_target : (x : List ℕ) (ss : Expressions) (e : Expression) → is_name x e ≡ false → same_expression (get x ss) e ≡ false

@@ -1,30 +1,25 @@
 -- A straight line is transposed, statement by statement.
-use Rattle.std.proofs.Common.{◌≡◌, ℕ, zero, suc, ◌+◌, ◌*◌, ◌<◌, List, [], ◌∷◌, length, Option, Some, None, Bool, true, false, not, refl, ap, sym, ◌∙◌, subst, arith, Result, Ok, Err}
+use Rattle.std.proofs.Common.{◌≡◌, ℕ, List, [], ◌∷◌, length, Some, Bool, true, false, not, refl, ap, sym, ◌∙◌, subst, Ok}
 use Rattle.std.specs.Prelude.{◌&&◌, ◌||◌, slice_index, slice_set}
-use Rattle.std.specs.List.{list_any}
 use Rattle.std.proofs.lemmas.Bool.{and_parts}
 use Rattle.std.proofs.lemmas.List.{length-set}
 use Rattle.pairing.specs.Ring.{Same}
 use Rattle.pairing.specs.Pair.{pair}
 use Rattle.pairing.proofs.Sames.{of_equal}
 use Rattle.pairing.proofs.Pairs.{pair_set}
-use Rattle.fl_ast.specs.declared.kind.Kind.TheVariants as kind
 use Rattle.fl_ast.specs.declared.decl.Decl.{Decl}
 use Rattle.fl_ast.specs.Tree.{Expression, Expressions, no_expressions, expression, Designator, Statement, assignment, branch, loop, statements_of}
 use Rattle.fl_types.specs.declared.access.AccessKind.TheVariants.{Write}
 use Rattle.fl_types.specs.Supported.{has_none, declares, is_declared, is_read_only, is_assignable, is_supported_expression, may_increment, is_supported_statement}
-use Rattle.meaning.specs.declared.value.Dual.{Dual}
 use Rattle.meaning.specs.declared.value.Value.{Value}
-use Rattle.meaning.specs.declared.value.Value.TheVariants.{Index, Ring}
 use Rattle.meaning.specs.declared.value.Cause.{Cause}
-use Rattle.meaning.specs.declared.value.TrapAt.{TrapAt}
 use Rattle.meaning.specs.Values.{as_dual, converted}
 use Rattle.meaning.specs.Logs.{Traced, right_side, inside, at_line}
-use Rattle.meaning.specs.Sites.{Cells, Key, Site, place_of, kind_of}
+use Rattle.meaning.specs.Sites.{Key, Site, place_of, kind_of}
 use Rattle.meaning.specs.Expressions.{content, value_of}
 use Rattle.meaning.specs.Statements.{stored, put, plain, run, run_all}
-use Rattle.adjoint_meaning.specs.Lines.{scalar_place, expression_word, words_after, words_after_all, increased, adjoints_before, adjoints_before_all}
-use Rattle.adjoint_meaning.specs.Laws.{duals, AreScalars, are_supported, IsTransposed, LinesAreTransposed}
+use Rattle.adjoint_meaning.specs.Lines.{scalar_place, words_after, adjoints_before, adjoints_before_all}
+use Rattle.adjoint_meaning.specs.Laws.{duals, AreScalars, are_supported, LinesAreTransposed}
 use Rattle.adjoint_meaning.proofs.Cells.{duals_set, there, length_with, bound_out, touching_out, saving_out}
 use Rattle.adjoint_meaning.proofs.Evaluation.{Gives, expression_gives, increased_long}
 use Rattle.adjoint_meaning.proofs.Plain.{no_terms}

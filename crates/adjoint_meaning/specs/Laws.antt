@@ -1,12 +1,11 @@
 -- The law of straight lines: their words are those of the meaning, and their adjoints are the transposed derivative.
-use Rattle.std.specs.Prelude.{◌≡◌, ℕ, Bool, true, ◌&&◌, List, [], ◌∷◌, length, Option, Some, None, is_some, Ok}
+use Rattle.std.specs.Prelude.{◌≡◌, ℕ, Bool, true, ◌&&◌, List, [], ◌∷◌, length, Some, is_some, Ok}
 use Rattle.pairing.specs.Ring.{Same}
 use Rattle.pairing.specs.Pair.{pair}
 use Rattle.fl_ast.specs.declared.decl.Decl.{Decl}
 use Rattle.fl_ast.specs.Tree.{Statement, statements_of}
 use Rattle.fl_types.specs.Supported.{is_declared, is_supported_statement}
-use Rattle.meaning.specs.declared.value.Value.{Value}
-use Rattle.meaning.specs.declared.value.Value.TheVariants.{Index, Ring}
+use Rattle.meaning.specs.declared.value.Value.TheVariants.{Ring}
 use Rattle.meaning.specs.Sites.{Cells, Site}
 use Rattle.meaning.specs.Statements.{run_all}
 use Rattle.adjoint_meaning.specs.Lines.{scalar_place, words_after_all, adjoints_before_all}

@@ -1,11 +1,11 @@
 -- Straight lines: plain assignments of sums, differences and products to scalars of the ring kind. What they do to the words of
 -- all places, and what the transposed derivative does to the adjoints, the last statement first. Only what `are_supported` lets
 -- through has a meaning here; of everything else these definitions say nothing.
-use Rattle.std.specs.Prelude.{ℕ, zero, List, [], ◌∷◌, ◌++◌, Option, Some, None, slice_index, slice_set}
+use Rattle.std.specs.Prelude.{ℕ, List, [], ◌∷◌, Option, Some, None, slice_index, slice_set}
 use Rattle.ring_core.specs.Ring.{ring_add, ring_sub, ring_mul, ring_neg}
 use Rattle.fl_ast.specs.declared.kind.BinOp.{BinOp}
 use Rattle.fl_ast.specs.declared.kind.BinOp.TheVariants.{Add, Sub, Mul, Div}
-use Rattle.fl_ast.specs.Tree.{Expression, literal, get, minus, binary, power, call, Designator, Statement, assignment, branch, loop}
+use Rattle.fl_ast.specs.Tree.{Expression, literal, get, minus, binary, power, call, Statement, assignment, branch, loop}
 use Rattle.store_core.specs.Keys.{same_key, first_at}
 use Rattle.meaning.specs.Sites.{Key}
 
@@ -54,6 +54,12 @@ abbrev pub old_word : List Key → List ℕ → Statement → ℕ
 old_word keys words (assignment line atomic p e) = word_at words (scalar_place keys p.name)
 old_word keys words (branch line arms other) = 0
 old_word keys words (loop line number directive var first last step body) = 0
+
+-- the words before a statement, from those after it and what its target held
+abbrev pub words_before : List Key → List ℕ → Statement → ℕ → List ℕ
+words_before keys words (assignment line atomic p e) old = with_word words (scalar_place keys p.name) old
+words_before keys words (branch line arms other) old = words
+words_before keys words (loop line number directive var first last step body) old = words
 
 -- the tape: what the targets held, in order
 abbrev pub old_words : List Key → List ℕ → List Statement → List ℕ
