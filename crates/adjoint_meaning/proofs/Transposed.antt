@@ -18,7 +18,7 @@ use Rattle.meaning.specs.Logs.{Traced, right_side, inside, at_line}
 use Rattle.meaning.specs.Sites.{Key, Site, place_of, kind_of}
 use Rattle.meaning.specs.Expressions.{content, value_of}
 use Rattle.meaning.specs.Statements.{stored, put, plain, run, run_all}
-use Rattle.adjoint_meaning.specs.Lines.{scalar_place, words_after, adjoints_before, adjoints_before_all}
+use Rattle.adjoint_meaning.specs.Lines.{scalar_place, words_after_all, words_after, adjoints_before, adjoints_before_all}
 use Rattle.adjoint_meaning.specs.Laws.{duals, AreScalars, are_supported, LinesAreTransposed}
 use Rattle.adjoint_meaning.proofs.Cells.{duals_set, there, length_with, bound_out, touching_out, saving_out}
 use Rattle.adjoint_meaning.proofs.Evaluation.{Gives, expression_gives, increased_long}
@@ -116,3 +116,10 @@ transposed ds site (s ∷ ss) words before scalars h same long =
       pairs = λ adjoints l.
           one.pairs (adjoints_before_all site.keys (words_after site.keys words s) ss adjoints) (before_long site.keys ss (words_after site.keys words s) adjoints ∙ l) ∙ rest.pairs adjoints (l ∙ sym one.wide);
     }
+
+-- as many words after as before
+pub after_long : (keys : List Key) (ss : List Statement) (words : List ℕ) → length (words_after_all keys words ss) ≡ length words
+after_long keys [] words = refl
+after_long keys ((assignment line atomic p e) ∷ ss) words = after_long keys ss (words_after keys words (assignment line atomic p e)) ∙ length_with words (scalar_place keys p.name) _
+after_long keys ((branch line arms other) ∷ ss) words = after_long keys ss words
+after_long keys ((loop line number directive var first last step body) ∷ ss) words = after_long keys ss words
