@@ -32,7 +32,7 @@ declared_first : (a b c e : Bool) → ((a && b) || c) ≡ true → (c ≡ true �
 declared_first true b c e h f = refl
 declared_first false b c e h f = f h
 
-declared_by : (ds : List Decl) (x : List ℕ) → is_assignable ds x ≡ true → is_declared ds x ≡ true
+pub declared_by : (ds : List Decl) (x : List ℕ) → is_assignable ds x ≡ true → is_declared ds x ≡ true
 declared_by [] x h = cc
 declared_by (d ∷ ds) x h = declared_first (declares x d) (not (is_read_only d.intent)) (is_assignable ds x) (is_declared ds x) h (declared_by ds x)
 

@@ -3,6 +3,7 @@ ghost use Rattle.store_core.specs.Keys.{keys_of};
 ghost use Rattle.store_core.specs.Places.{are_scalars};
 ghost use Rattle.fl_types.specs.Straight.{is_straight_statement, are_straight};
 ghost use Rattle.resolved.specs.Steps.{step_back, is_fit, are_fit};
+ghost use Rattle.adjoint_meaning.specs.Laws.{AreWords};
 ghost use Rattle.adjoint_meaning.specs.Lines.{words_after_all, words_before, old_words, adjoints_before, adjoints_before_all};
 
 use crate::expression::increase;
@@ -53,7 +54,8 @@ pub fn reverse(
     requires taped { length tape.now ≡ length stmts.now }
     requires fit { are_fit table.now stmts.now ≡ true }
     requires straight { are_straight (map (step_back table.now.0) stmts.now) ≡ true }
-    ensures { (before : List ℕ)
+    ensures words { AreWords adjoints.new }
+    ensures adjoints { (before : List ℕ)
         → words.old ≡ words_after_all (keys_of table.now.0) before (map (step_back table.now.0) stmts.now)
         → tape.now ≡ old_words (keys_of table.now.0) before (map (step_back table.now.0) stmts.now)
         → adjoints.new ≡ adjoints_before_all (keys_of table.now.0) before (map (step_back table.now.0) stmts.now) adjoints.old }

@@ -15,6 +15,7 @@ go_back-requires-clause-straight c =
 pub loop-at-preserved : goal.loop-at-preserved
 loop-at-preserved c = record {
   few = omega (arith, c.loop-at.invariant.few);
+  small = λ k l. (c.type_inv.adjoints k).fits;
   reached = λ before h t.
       let keys = keys_of c.args.table.now.0 in
       let f = step_back c.args.table.now.0 in
@@ -25,8 +26,8 @@ loop-at-preserved c = record {
       (one_back keys f c.args.stmts.now (c.loop-at.at - 1) c.index-stmts-at.result before c.args.tape.now c.loop-at.words c.loop-at.adjoints c.args.adjoints.now l c.index-stmts-at.is t r);
 }
 
-pub returns : goal.returns
-returns c = λ before h t.
+pub returns-clause-adjoints : goal.returns-clause-adjoints
+returns-clause-adjoints c = λ before h t.
     let keys = keys_of c.args.table.now.0 in
     let f = step_back c.args.table.now.0 in
     let z : c.loop-at.at ≡ 0 = omega (arith, c.loop-at-test.false) in

@@ -1,6 +1,7 @@
 use Rattle.std.proofs.Common.{◌≡◌, ◌≤◌, ℕ, List, length, map, take}
 use Rattle.store_core.specs.Keys.{keys_of}
 use Rattle.resolved.specs.Steps.{step_back}
+use Rattle.adjoint_meaning.specs.Laws.{AreWords}
 use Rattle.adjoint_meaning.specs.Lines.{words_after_all, old_words}
 use Rattle.adjoint_sweep.proofs.Backwards.{Reached}
 use Rattle.adjoint_sweep.proofs.statements.reverse.Given as goal
@@ -8,6 +9,7 @@ use Rattle.adjoint_sweep.proofs.statements.reverse.Given as goal
 abbrev pub invariant-loop-at : goal.invariant-loop-at
 invariant-loop-at l = record {
   few : l.at ≤ length l.stmts;
+  small : AreWords l.adjoints;
   reached :
       (before : List ℕ) → l.initial.words ≡ words_after_all (keys_of l.table.0) before (map (step_back l.table.0) l.stmts)
       → l.tape ≡ old_words (keys_of l.table.0) before (map (step_back l.table.0) l.stmts)
