@@ -9,8 +9,8 @@ use Rattle.meaning.specs.declared.value.Value.{Value}
 use Rattle.meaning.specs.declared.value.Value.TheVariants.{Ring}
 use Rattle.meaning.specs.Logs.{Traced, ◌>>=◌}
 use Rattle.meaning.specs.Sites.{Cells, Key, Site}
-use Rattle.meaning.specs.Expressions.{content, touching}
-use Rattle.meaning.specs.Statements.{saving}
+use Rattle.meaning.specs.Expressions.{content, after_touch}
+use Rattle.meaning.specs.Statements.{after_push}
 use Rattle.adjoint_meaning.specs.Lines.{scalar_place, with_word}
 use Rattle.adjoint_meaning.specs.Laws.{duals}
 
@@ -50,16 +50,16 @@ length_with ws (Some p) w = length-set ws p w
 pub bound_out : {X A B : Type 0} (t : Traced X A) (f : A → Traced X B) (a : A) → t.out ≡ Ok a → (t >>= f).out ≡ (f a).out
 bound_out t f a h = rw h refl
 
-pub touching_out : {X A : Type 0} (site : Site) (x : List ℕ) (p : ℕ) (k : AccessKind) (t : Traced X A) → (touching site x p k t).out ≡ t.out
+pub touching_out : {X A : Type 0} (site : Site) (x : List ℕ) (p : ℕ) (k : AccessKind) (t : Traced X A) → (after_touch site x p k t).out ≡ t.out
 touching_out site x p k t = by_test (site.accessed x) refl
   where
-    by_test : (b : Bool) → site.accessed x ≡ b → (touching site x p k t).out ≡ t.out
+    by_test : (b : Bool) → site.accessed x ≡ b → (after_touch site x p k t).out ≡ t.out
     by_test true e = rw e refl
     by_test false e = rw e refl
 
-pub saving_out : {X A : Type 0} (site : Site) (x : List ℕ) (old : Option Value) (t : Traced X A) → (saving site x old t).out ≡ t.out
+pub saving_out : {X A : Type 0} (site : Site) (x : List ℕ) (old : Option Value) (t : Traced X A) → (after_push site x old t).out ≡ t.out
 saving_out site x old t = by_test (site.pushed x) refl
   where
-    by_test : (b : Bool) → site.pushed x ≡ b → (saving site x old t).out ≡ t.out
+    by_test : (b : Bool) → site.pushed x ≡ b → (after_push site x old t).out ≡ t.out
     by_test true e = rw e refl
     by_test false e = rw e refl

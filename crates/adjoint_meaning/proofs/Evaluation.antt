@@ -4,7 +4,7 @@ use Rattle.std.specs.Prelude.{◌||◌, nat_lt, slice_index}
 use Rattle.std.specs.Int.{w64, cast_unsigned}
 use Rattle.std.proofs.lemmas.Bool.{and_parts, ltb-true, lt-ltb}
 use Rattle.ring_core.specs.Ring.{ring_add, ring_sub, ring_mul, ring_neg}
-use Rattle.ring_core.specs.Index.{fitted}
+use Rattle.ring_core.specs.Index.{exact_index}
 use Rattle.pairing.specs.Ring.{last, Same}
 use Rattle.pairing.specs.Pair.{pair}
 use Rattle.pairing.proofs.Sames.{of_equal, same_sum, same_product, strip_add, strip_sub, strip_mul, strip_neg}
@@ -21,16 +21,16 @@ use Rattle.meaning.specs.declared.value.Value.TheVariants.{Index, Ring}
 use Rattle.meaning.specs.Values.{as_dual, binary_result, ring_result}
 use Rattle.meaning.specs.Sites.{Site}
 use Rattle.meaning.specs.Expressions.{content, value_of}
-use Rattle.adjoint_meaning.specs.Lines.{scalar_place, expression_word, left_amount, right_amount, increased}
+use Rattle.adjoint_meaning.specs.Lines.{scalar_place, expression_word, left_amount, right_amount, increased_adjoints}
 use Rattle.adjoint_meaning.specs.Laws.{duals, AreScalars}
 use Rattle.adjoint_meaning.proofs.Cells.{content_dual, place_within, there, length_with, bound_out, touching_out}
 
-pub increased_long : (keys : List (List ℕ × List ℤ)) (words : List ℕ) (e : Expression) (amount : ℕ) (adjoints : List ℕ) → length (increased keys words e amount adjoints) ≡ length adjoints
+pub increased_long : (keys : List (List ℕ × List ℤ)) (words : List ℕ) (e : Expression) (amount : ℕ) (adjoints : List ℕ) → length (increased_adjoints keys words e amount adjoints) ≡ length adjoints
 increased_long keys words (literal n k) amount adjoints = refl
 increased_long keys words (get x ss) amount adjoints = length_with adjoints (scalar_place keys x) _
 increased_long keys words (minus e) amount adjoints = increased_long keys words e (ring_neg amount) adjoints
 increased_long keys words (binary o l r) amount adjoints =
-    increased_long keys words r (right_amount o amount (expression_word keys words l)) (increased keys words l (left_amount o amount (expression_word keys words r)) adjoints)
+    increased_long keys words r (right_amount o amount (expression_word keys words l)) (increased_adjoints keys words l (left_amount o amount (expression_word keys words r)) adjoints)
     ∙ increased_long keys words l (left_amount o amount (expression_word keys words r)) adjoints
 increased_long keys words (power e n) amount adjoints = refl
 increased_long keys words (call f es) amount adjoints = refl
@@ -49,12 +49,12 @@ pub record Gives (site : Site) (words ts : List ℕ) (e : Expression) : Type 0 w
   pub out : (value_of e site (duals words ts)).out ≡ Ok v
   pub word : (as_dual v).value ≡ expression_word site.keys words e
   pub kind : IsOfKind v (is_ring_expression e)
-  pub pairs : (amount : ℕ) (adjoints : List ℕ) → length adjoints ≡ length words → Same (pair (increased site.keys words e amount adjoints) ts) (pair adjoints ts + amount * (as_dual v).tangent)
+  pub pairs : (amount : ℕ) (adjoints : List ℕ) → length adjoints ≡ length words → Same (pair (increased_adjoints site.keys words e amount adjoints) ts) (pair adjoints ts + amount * (as_dual v).tangent)
 
 -- ---- literals
 
 index_literal : (site : Site) (words ts : List ℕ) (n : ℕ) → nat_lt n 2147483648 ≡ true → Gives site words ts (literal n kind.Index)
-unfolding fitted
+unfolding exact_index
 index_literal site words ts n h = record {
   v = Index (pos n);
   out = rw h refl;
@@ -103,11 +103,11 @@ positive_word : (n : ℕ) → suc n < 2147483648 → suc n ≡ ring_neg (cast_un
 positive_word n h = omega arith
 
 minus_gives : (site : Site) (words ts : List ℕ) (e : Expression) → Gives site words ts e → Gives site words ts (minus e)
-unfolding fitted
+unfolding exact_index
 minus_gives site words ts e g = by_value g.v g.out g.word g.kind g.pairs
   where
     by_value : (v : Value) → (value_of e site (duals words ts)).out ≡ Ok v → (as_dual v).value ≡ expression_word site.keys words e → IsOfKind v (is_ring_expression e)
-        → ((amount : ℕ) (adjoints : List ℕ) → length adjoints ≡ length words → Same (pair (increased site.keys words e amount adjoints) ts) (pair adjoints ts + amount * (as_dual v).tangent))
+        → ((amount : ℕ) (adjoints : List ℕ) → length adjoints ≡ length words → Same (pair (increased_adjoints site.keys words e amount adjoints) ts) (pair adjoints ts + amount * (as_dual v).tangent))
         → Gives site words ts (minus e)
     by_value (Ring d) out word k pairs = record {
       v = Ring (record { value = ring_neg d.value; tangent = ring_neg d.tangent });
@@ -175,9 +175,9 @@ module _ (site : Site) (words ts : List ℕ) (l r : Expression) (g : Gives site 
   both_out o = bound_out (value_of l site (duals words ts)) _ g.v g.out ∙ bound_out (value_of r site (duals words ts)) _ h.v h.out
 
   both_pairs : (a b : ℕ) (adjoints : List ℕ) → length adjoints ≡ length words
-      → Same (pair (increased site.keys words r b (increased site.keys words l a adjoints)) ts) (pair adjoints ts + a * (as_dual g.v).tangent + b * (as_dual h.v).tangent)
+      → Same (pair (increased_adjoints site.keys words r b (increased_adjoints site.keys words l a adjoints)) ts) (pair adjoints ts + a * (as_dual g.v).tangent + b * (as_dual h.v).tangent)
   both_pairs a b adjoints long =
-      h.pairs b (increased site.keys words l a adjoints) (increased_long site.keys words l a adjoints ∙ long)
+      h.pairs b (increased_adjoints site.keys words l a adjoints) (increased_long site.keys words l a adjoints ∙ long)
       ∙ same_sum _ _ (b * (as_dual h.v).tangent) (b * (as_dual h.v).tangent) (g.pairs a adjoints long) refl
 
   binary_gives : (o : BinOp) → is_supported_op o ≡ true → (is_ring_expression l || is_ring_expression r) ≡ true → Gives site words ts (binary o l r)

@@ -257,9 +257,9 @@ no_dims v (d ∷ dims) h = cc
 itself_declared : (ds : List Decl) → list_all (λ (d : Decl). is_declared ds d.name) ds ≡ true
 itself_declared ds = each ds ds (λ x h. h)
   where
-    each : (whole ds : List Decl) → ((x : List ℕ) → is_declared ds x ≡ true → is_declared whole x ≡ true) → list_all (λ (d : Decl). is_declared whole d.name) ds ≡ true
-    each whole [] f = refl
-    each whole (d ∷ ds) f = and_from _ _ (f d.name (or_left _ _ (same_name d.name))) (each whole ds (λ x h. f x (or_right (bytes_eq d.name x) _ h)))
+    each : (all ds : List Decl) → ((x : List ℕ) → is_declared ds x ≡ true → is_declared all x ≡ true) → list_all (λ (d : Decl). is_declared all d.name) ds ≡ true
+    each all [] f = refl
+    each all (d ∷ ds) f = and_from _ _ (f d.name (or_left _ _ (same_name d.name))) (each all ds (λ x h. f x (or_right (bytes_eq d.name x) _ h)))
 
 all_and : {A : Type 0} (t u : A → Bool) (xs : List A) → list_all t xs ≡ true → list_all u xs ≡ true → list_all (λ x. t x && u x) xs ≡ true
 all_and t u [] h g = refl

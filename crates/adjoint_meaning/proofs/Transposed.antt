@@ -13,11 +13,11 @@ use Rattle.fl_types.specs.declared.access.AccessKind.TheVariants.{Write}
 use Rattle.fl_types.specs.Supported.{has_none, declares, is_declared, is_read_only, is_assignable, is_supported_expression, may_increment, is_supported_statement}
 use Rattle.meaning.specs.declared.value.Value.{Value}
 use Rattle.meaning.specs.declared.value.Cause.{Cause}
-use Rattle.meaning.specs.Values.{as_dual, converted}
+use Rattle.meaning.specs.Values.{as_dual, as_kind}
 use Rattle.meaning.specs.Logs.{Traced, right_side, inside, at_line}
 use Rattle.meaning.specs.Sites.{Key, Site, place_of, kind_of}
 use Rattle.meaning.specs.Expressions.{content, value_of}
-use Rattle.meaning.specs.Statements.{stored, put, plain, run, run_all}
+use Rattle.meaning.specs.Statements.{store_at, put, plain_assignment, run, run_all}
 use Rattle.adjoint_meaning.specs.Lines.{scalar_place, words_after_all, words_after, adjoints_before, adjoints_before_all}
 use Rattle.adjoint_meaning.specs.Laws.{duals, AreScalars, are_supported, LinesAreTransposed}
 use Rattle.adjoint_meaning.proofs.Cells.{duals_set, there, length_with, bound_out, touching_out, saving_out}
@@ -54,7 +54,7 @@ pub record Steps (site : Site) (s : Statement) (words before : List ℕ) : Type 
 put_out : (site : Site) (words ts : List ℕ) (x : List ℕ) (v : Value) (p : ℕ) → length ts ≡ length words → scalar_place site.keys x ≡ Some p → site.ring x ≡ true
     → (put site (duals words ts) x v (place_of site x [])).out ≡ Ok (duals (slice_set words p (as_dual v).value) (slice_set ts p (as_dual v).tangent))
 put_out site words ts x v p same h ring =
-    rw h (touching_out site x p Write _ ∙ (saving_out site x (content (duals words ts) p) (stored (duals words ts) p (converted (kind_of site x) v)) ∙ (rw ring (ap Ok (duals_set words ts p (as_dual v) same)))))
+    rw h (touching_out site x p Write _ ∙ (saving_out site x (content (duals words ts) p) (store_at (duals words ts) p (as_kind (kind_of site x) v)) ∙ (rw ring (ap Ok (duals_set words ts p (as_dual v) same)))))
 
 assignment_steps : (site : Site) (words before : List ℕ) (line : ℕ) (atomic : Bool) (x : List ℕ) (e : Expression) (p : ℕ) → length before ≡ length words → scalar_place site.keys x ≡ Some p → site.ring x ≡ true
     → may_increment x e ≡ false → Gives site words before e → Steps site (assignment line atomic (record { name = x; subscripts = no_expressions }) e) words before
@@ -64,7 +64,7 @@ assignment_steps site words before line atomic x e p same h ring plainly g = rec
   wide = length_with words (scalar_place site.keys x) _;
   out =
       rw (no_terms site.ring (record { name = x; subscripts = no_expressions }) e plainly)
-      (at_line_out line (plain site (duals words before) (record { name = x; subscripts = no_expressions }) e) _
+      (at_line_out line (plain_assignment site (duals words before) (record { name = x; subscripts = no_expressions }) e) _
       (bound_out (inside (right_side x) (value_of e site (duals words before))) _ g.v g.out
       ∙ (put_out site words before x g.v p same h ring ∙ (rw (h, g.word) refl))));
   pairs = λ adjoints long.

@@ -23,8 +23,8 @@ use Rattle.meaning.specs.declared.value.Value.TheVariants.{Ring}
 use Rattle.meaning.specs.declared.value.TrapAt.{TrapAt}
 use Rattle.meaning.specs.Sites.{Cells, Key, Site, data_width, word_of}
 use Rattle.meaning.specs.Statements.{run_all}
-use Rattle.meaning.specs.Adjoints.{along, unit, paired, paired_after}
-use Rattle.meaning.specs.Programs.{cells_of, unpushed, numbers_from, words_after}
+use Rattle.meaning.specs.Adjoints.{cells_along, unit, pairing_of, pairing_after}
+use Rattle.meaning.specs.Programs.{cells_of, no_pushes, numbers_from, words_after}
 use Rattle.adjoint_meaning.specs.Lines.{words_after_all, adjoints_before_all}
 use Rattle.adjoint_meaning.specs.Laws.{duals, AreScalars, are_supported, IsTransposed, NamesAreScalars, WordsAreFinal, AreWords, AdjointsAreTransposed}
 use Rattle.adjoint_meaning.proofs.Layouts.{Parts, parts, all_known, scalars_known, with_none, named, declared_ring, all_plain, scalar_found, keys_set}
@@ -39,17 +39,17 @@ site_with ds keys = record {
   declared = map (λ (d : Decl). d.name) ds;
   ring = is_ring_name ds;
   width = data_width ds;
-  pushed = unpushed;
+  pushed = no_pushes;
   outer = [];
   accessed = λ x. false;
   pluses = λ x. false;
 }
 
 along_set : (site : Site) (args : List (List ℕ)) (keys : List Key) (ws ts : List ℕ) → list_all (λ (k : Key). has_name k.0 args && site.ring k.0) keys ≡ true → length ws ≡ length keys
-    → along ts (cells_of site args keys ws) ≡ duals ws (fitted (length ws) ts)
+    → cells_along ts (cells_of site args keys ws) ≡ duals ws (fitted (length ws) ts)
 along_set site args [] [] ts h l = no_cells ts
   where
-    no_cells : (ts : List ℕ) → along ts [] ≡ []
+    no_cells : (ts : List ℕ) → cells_along ts [] ≡ []
     no_cells [] = refl
     no_cells (t ∷ ts) = refl
 along_set site args [] (w ∷ ws) ts h l = absurd (omega arith)
@@ -76,16 +76,16 @@ take_all : (ws : List ℕ) → take (length ws) ws ≡ ws
 take_all [] = refl
 take_all (w ∷ ws) = ap (λ (l : List ℕ). w ∷ l) (take_all ws)
 
-paired_same : (bs ws ts : List ℕ) → length ts ≡ length ws → Same (paired bs (duals ws ts)) (pair bs ts)
+paired_same : (bs ws ts : List ℕ) → length ts ≡ length ws → Same (pairing_of bs (duals ws ts)) (pair bs ts)
 paired_same [] ws ts h = refl
 paired_same (b ∷ bs) [] [] h = refl
 paired_same (b ∷ bs) [] (t ∷ ts) h = absurd (omega arith)
 paired_same (b ∷ bs) (w ∷ ws) [] h = absurd (omega arith)
 paired_same (b ∷ bs) (w ∷ ws) (t ∷ ts) h =
     let m : length ts ≡ length ws = omega arith in
-    strip_add (ring_mul b t) (paired bs (duals ws ts)) ∙ same_sum (ring_mul b t) (b * t) _ _ (strip_mul b t) (paired_same bs ws ts m)
+    strip_add (ring_mul b t) (pairing_of bs (duals ws ts)) ∙ same_sum (ring_mul b t) (b * t) _ _ (strip_mul b t) (paired_same bs ws ts m)
 
-paired_small : (bs : List ℕ) (cells : Cells) → paired bs cells < big
+paired_small : (bs : List ℕ) (cells : Cells) → pairing_of bs cells < big
 unfolding big
 paired_small [] cells = omega arith
 paired_small (b ∷ bs) [] = omega arith
@@ -133,13 +133,13 @@ module _ (p : Program) (values : List Entry) (h : Parts p) (words : List ℕ) (l
   in_direction ts =
       transposed p.decls (site_with p.decls (keys_of (shapes_of p values))) (map stmt_tree p.body) words (fitted (length words) ts) known_scalars (supported_all p.decls p.body h.body) (length-fitted (length words) ts) long
 
-  entry : (ts : List ℕ) → along ts (cells_of (site_with p.decls (keys_of (shapes_of p values))) p.args (keys_of (shapes_of p values)) words) ≡ duals words (fitted (length words) ts)
+  entry : (ts : List ℕ) → cells_along ts (cells_of (site_with p.decls (keys_of (shapes_of p values))) p.args (keys_of (shapes_of p values)) words) ≡ duals words (fitted (length words) ts)
   entry ts = along_set (site_with p.decls (keys_of (shapes_of p values))) p.args (keys_of (shapes_of p values)) words ts (keys_set p values h) long
 
   run_in : (ts : List ℕ) → Result Cells TrapAt
   run_in ts =
       (run_all (stmt_trees p.body) (site_with p.decls (keys_of (shapes_of p values)))
-      (along ts (cells_of (site_with p.decls (keys_of (shapes_of p values))) p.args (keys_of (shapes_of p values)) words))).out
+      (cells_along ts (cells_of (site_with p.decls (keys_of (shapes_of p values))) p.args (keys_of (shapes_of p values)) words))).out
 
   ends : (ts : List ℕ) → run_in ts ≡ Ok (duals (words_after_all (keys_of (shapes_of p values)) words (map stmt_tree p.body)) (in_direction ts).tangents)
   unfolding run_in
@@ -153,7 +153,7 @@ module _ (p : Program) (values : List Entry) (h : Parts p) (words : List ℕ) (l
       ∙ (ap (take (length (keys_of (shapes_of p values)))) (words_back ws (in_direction []).tangents) ∙ (sym e ∙ take_all ws)))
 
   adjoint_is : (weights : List ℕ) → length weights ≡ length words → AreWords (adjoints_before_all (keys_of (shapes_of p values)) words (map stmt_tree p.body) weights)
-      → (j : ℕ) → j < length words → paired_after weights (run_in (unit j)) ≡ slice_index (adjoints_before_all (keys_of (shapes_of p values)) words (map stmt_tree p.body) weights) j
+      → (j : ℕ) → j < length words → pairing_after weights (run_in (unit j)) ≡ slice_index (adjoints_before_all (keys_of (shapes_of p values)) words (map stmt_tree p.body) weights) j
   adjoint_is weights wide small j l =
       let ws = words_after_all (keys_of (shapes_of p values)) words (map stmt_tree p.body) in
       let bs = adjoints_before_all (keys_of (shapes_of p values)) words (map stmt_tree p.body) weights in
@@ -161,8 +161,8 @@ module _ (p : Program) (values : List Entry) (h : Parts p) (words : List ℕ) (l
       let many : length bs ≡ length words = before_long (keys_of (shapes_of p values)) (map stmt_tree p.body) words weights ∙ wide in
       let at : j < length bs = omega arith in
       let low : slice_index bs j < big = below bs small j at in
-      ap (paired_after weights) (ends (unit j))
-      ∙ same_words (paired weights (duals ws t.tangents)) (slice_index bs j) (paired_small weights (duals ws t.tangents)) low
+      ap (pairing_after weights) (ends (unit j))
+      ∙ same_words (pairing_of weights (duals ws t.tangents)) (slice_index bs j) (paired_small weights (duals ws t.tangents)) low
       (paired_same weights ws t.tangents (t.long ∙ sym (after_long (keys_of (shapes_of p values)) (map stmt_tree p.body) words))
       ∙ (sym (t.pairs weights wide) ∙ of_equal (pair bs (fitted (length words) (unit j))) (slice_index bs j) (pair_unit bs (length words) j many l)))
 
@@ -173,7 +173,7 @@ names_are_scalars p values h =
 -- the cells and the run over the shapes with all scalars
 outcome : (p : Program) (es : List Shape) (words ts : List ℕ) → Result Cells TrapAt
 outcome p es words ts =
-    (run_all (stmt_trees p.body) (site_with p.decls (keys_of es)) (along ts (cells_of (site_with p.decls (keys_of es)) p.args (keys_of es) words))).out
+    (run_all (stmt_trees p.body) (site_with p.decls (keys_of es)) (cells_along ts (cells_of (site_with p.decls (keys_of es)) p.args (keys_of es) words))).out
 
 pub words_are_final : WordsAreFinal
 unfolding outcome run_in
@@ -188,9 +188,9 @@ adjoints_are_transposed p values words weights h long wide small =
     let k = parts p h in
     let bs = adjoints_before_all (keys_of (shapes_of p values)) words (map stmt_tree p.body) weights in
     let many : length bs ≡ length (keys_of (shapes_of p values)) = before_long (keys_of (shapes_of p values)) (map stmt_tree p.body) words weights ∙ wide in
-    let each : (j : ℕ) → j < length bs → paired_after weights (outcome p (shapes_of p values) words (unit j)) ≡ slice_index bs j =
+    let each : (j : ℕ) → j < length bs → pairing_after weights (outcome p (shapes_of p values) words (unit j)) ≡ slice_index bs j =
     λ j l. adjoint_is p values k words long weights (wide ∙ sym long) small j (omega (arith, l, many, long)) in
     sym
-    (subst (λ (es : List Shape). map (λ (j : ℕ). paired_after weights (outcome p es words (unit j))) (numbers_from 0 (length (keys_of (shapes_of p values)))) ≡ bs) (sym (with_none p values k))
-    (ap (λ (n : ℕ). map (λ (j : ℕ). paired_after weights (outcome p (shapes_of p values) words (unit j))) (numbers_from 0 n)) (sym many)
-    ∙ all_numbers (λ (j : ℕ). paired_after weights (outcome p (shapes_of p values) words (unit j))) bs 0 (λ j l. ap (λ (i : ℕ). paired_after weights (outcome p (shapes_of p values) words (unit i))) (omega arith) ∙ each j l)))
+    (subst (λ (es : List Shape). map (λ (j : ℕ). pairing_after weights (outcome p es words (unit j))) (numbers_from 0 (length (keys_of (shapes_of p values)))) ≡ bs) (sym (with_none p values k))
+    (ap (λ (n : ℕ). map (λ (j : ℕ). pairing_after weights (outcome p (shapes_of p values) words (unit j))) (numbers_from 0 n)) (sym many)
+    ∙ all_numbers (λ (j : ℕ). pairing_after weights (outcome p (shapes_of p values) words (unit j))) bs 0 (λ j l. ap (λ (i : ℕ). pairing_after weights (outcome p (shapes_of p values) words (unit i))) (omega arith) ∙ each j l)))

@@ -82,24 +82,24 @@ right_amount Sub amount other = ring_neg amount
 right_amount Mul amount other = ring_mul amount other
 right_amount Div amount other = 0
 
-abbrev pub grown_at : List ℕ → Option ℕ → ℕ → List ℕ
-grown_at adjoints p amount = with_word adjoints p (ring_add (word_at adjoints p) amount)
+abbrev pub with_increase : List ℕ → Option ℕ → ℕ → List ℕ
+with_increase adjoints p amount = with_word adjoints p (ring_add (word_at adjoints p) amount)
 
 -- the adjoints, each operand's increased by the amount times the expression's partial derivative
-abbrev pub increased : List Key → List ℕ → Expression → ℕ → List ℕ → List ℕ
-increased keys words (literal n k) amount adjoints = adjoints
-increased keys words (get x ss) amount adjoints = grown_at adjoints (scalar_place keys x) amount
-increased keys words (minus e) amount adjoints = increased keys words e (ring_neg amount) adjoints
-increased keys words (binary o l r) amount adjoints =
-    increased keys words r (right_amount o amount (expression_word keys words l))
-    (increased keys words l (left_amount o amount (expression_word keys words r)) adjoints)
-increased keys words (power e n) amount adjoints = adjoints
-increased keys words (call f es) amount adjoints = adjoints
+abbrev pub increased_adjoints : List Key → List ℕ → Expression → ℕ → List ℕ → List ℕ
+increased_adjoints keys words (literal n k) amount adjoints = adjoints
+increased_adjoints keys words (get x ss) amount adjoints = with_increase adjoints (scalar_place keys x) amount
+increased_adjoints keys words (minus e) amount adjoints = increased_adjoints keys words e (ring_neg amount) adjoints
+increased_adjoints keys words (binary o l r) amount adjoints =
+    increased_adjoints keys words r (right_amount o amount (expression_word keys words l))
+    (increased_adjoints keys words l (left_amount o amount (expression_word keys words r)) adjoints)
+increased_adjoints keys words (power e n) amount adjoints = adjoints
+increased_adjoints keys words (call f es) amount adjoints = adjoints
 
 -- the adjoints before a statement, from those after it and the words before it: the target's is taken, and spread over the operands
 abbrev pub adjoints_before : List Key → List ℕ → Statement → List ℕ → List ℕ
 adjoints_before keys words (assignment line atomic p e) adjoints =
-    increased keys words e (word_at adjoints (scalar_place keys p.name)) (with_word adjoints (scalar_place keys p.name) 0)
+    increased_adjoints keys words e (word_at adjoints (scalar_place keys p.name)) (with_word adjoints (scalar_place keys p.name) 0)
 adjoints_before keys words (branch line arms other) adjoints = adjoints
 adjoints_before keys words (loop line number directive var first last step body) adjoints = adjoints
 

@@ -8,7 +8,7 @@ use Rattle.store_core.specs.declared.layout.Shape.{Shape}
 use Rattle.meaning.specs.Sites.{Key}
 use Rattle.resolved.specs.declared.resolved.ResolvedStmt.{ResolvedStmt}
 use Rattle.resolved.specs.SlotTables.{Names}
-use Rattle.resolved.specs.Steps.{step_back, is_fit, are_fit}
+use Rattle.resolved.specs.ResolvedStmts.{statement_back, is_fit, are_fit}
 use Rattle.adjoint_meaning.specs.Lines.{word_at, with_word, words_after, words_after_all, words_before, old_word, old_words, adjoints_before, adjoints_before_all}
 
 after_last : (keys : List Key) (xs : List Statement) (s : Statement) (ws : List ℕ) → words_after_all keys ws (xs ++ s ∷ []) ≡ words_after keys (words_after_all keys ws xs) s
@@ -64,10 +64,10 @@ fit_at names [] k x f l h = absurd (omega arith)
 fit_at names (y ∷ xs) zero x f l h = rw h (and_parts (is_fit names y) (are_fit names xs) f).0
 fit_at names (y ∷ xs) (suc k) x f l h = let m : k < length xs = omega arith in fit_at names xs k x (and_parts (is_fit names y) (are_fit names xs) f).1 m h
 
-pub straight_at : (es : List Shape) (xs : List ResolvedStmt) (k : ℕ) (x : ResolvedStmt) → are_straight (map (step_back es) xs) ≡ true → k < length xs → x ≡ get_or xs k x → is_straight_statement (step_back es x) ≡ true
+pub straight_at : (es : List Shape) (xs : List ResolvedStmt) (k : ℕ) (x : ResolvedStmt) → are_straight (map (statement_back es) xs) ≡ true → k < length xs → x ≡ get_or xs k x → is_straight_statement (statement_back es x) ≡ true
 straight_at es [] k x f l h = absurd (omega arith)
-straight_at es (y ∷ xs) zero x f l h = rw h (and_parts (is_straight_statement (step_back es y)) (are_straight (map (step_back es) xs)) f).0
-straight_at es (y ∷ xs) (suc k) x f l h = let m : k < length xs = omega arith in straight_at es xs k x (and_parts (is_straight_statement (step_back es y)) (are_straight (map (step_back es) xs)) f).1 m h
+straight_at es (y ∷ xs) zero x f l h = rw h (and_parts (is_straight_statement (statement_back es y)) (are_straight (map (statement_back es) xs)) f).0
+straight_at es (y ∷ xs) (suc k) x f l h = let m : k < length xs = omega arith in straight_at es xs k x (and_parts (is_straight_statement (statement_back es y)) (are_straight (map (statement_back es) xs)) f).1 m h
 
 -- the words and adjoints at a statement, going back
 pub record Reached (keys : List Key) (all : List Statement) (before ws bs last : List ℕ) (done : List Statement) : Type 0 where

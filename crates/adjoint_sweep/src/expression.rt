@@ -3,8 +3,8 @@ ghost use Rattle.store_core.specs.Keys.{keys_of};
 ghost use Rattle.store_core.specs.Places.{are_scalars};
 ghost use Rattle.fl_types.specs.Supported.{is_supported_op};
 ghost use Rattle.fl_types.specs.Straight.{is_straight_expression};
-ghost use Rattle.resolved.specs.Codes.{code_back, is_within};
-ghost use Rattle.adjoint_meaning.specs.Lines.{expression_word, left_amount, right_amount, increased};
+ghost use Rattle.resolved.specs.ResolvedExprs.{expression_back, is_within};
+ghost use Rattle.adjoint_meaning.specs.Lines.{expression_word, left_amount, right_amount, increased_adjoints};
 
 use fl_ast::BinOp;
 use primal_sweep::word_of;
@@ -26,10 +26,10 @@ fn amounts(
     requires left_within { is_within (length layout.now) left.now ≡ true }
     requires right_within { is_within (length layout.now) right.now ≡ true }
     requires op { is_supported_op op ≡ true }
-    requires left_straight { is_straight_expression (code_back layout.now left.now) ≡ true }
-    requires right_straight { is_straight_expression (code_back layout.now right.now) ≡ true }
-    ensures left { result.0 ≡ left_amount op amount (expression_word (keys_of layout.now) words.now (code_back layout.now right.now)) }
-    ensures right { result.1 ≡ right_amount op amount (expression_word (keys_of layout.now) words.now (code_back layout.now left.now)) }
+    requires left_straight { is_straight_expression (expression_back layout.now left.now) ≡ true }
+    requires right_straight { is_straight_expression (expression_back layout.now right.now) ≡ true }
+    ensures left { result.0 ≡ left_amount op amount (expression_word (keys_of layout.now) words.now (expression_back layout.now right.now)) }
+    ensures right { result.1 ≡ right_amount op amount (expression_word (keys_of layout.now) words.now (expression_back layout.now left.now)) }
 {
     match op {
         BinOp::Add => (amount, amount),
@@ -55,8 +55,8 @@ pub fn increase(
     requires long { length words.now ≡ length (keys_of layout.now) }
     requires wide { length adjoints.old ≡ length (keys_of layout.now) }
     requires within { is_within (length layout.now) expr.now ≡ true }
-    requires straight { is_straight_expression (code_back layout.now expr.now) ≡ true }
-    ensures { adjoints.new ≡ increased (keys_of layout.now) words.now (code_back layout.now expr.now) amount adjoints.old }
+    requires straight { is_straight_expression (expression_back layout.now expr.now) ≡ true }
+    ensures { adjoints.new ≡ increased_adjoints (keys_of layout.now) words.now (expression_back layout.now expr.now) amount adjoints.old }
 {
     match expr {
         ResolvedExpr::Lit { .. } => {}

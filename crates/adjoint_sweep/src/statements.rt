@@ -2,7 +2,7 @@ ghost use Rattle.std.specs.Prelude.{◌≡◌, ℕ, List, true, length, map};
 ghost use Rattle.store_core.specs.Keys.{keys_of};
 ghost use Rattle.store_core.specs.Places.{are_scalars};
 ghost use Rattle.fl_types.specs.Straight.{is_straight_statement, are_straight};
-ghost use Rattle.resolved.specs.Steps.{step_back, is_fit, are_fit};
+ghost use Rattle.resolved.specs.ResolvedStmts.{statement_back, is_fit, are_fit};
 ghost use Rattle.adjoint_meaning.specs.Laws.{AreWords};
 ghost use Rattle.adjoint_meaning.specs.Lines.{words_after_all, words_before, old_words, adjoints_before, adjoints_before_all};
 
@@ -22,9 +22,9 @@ fn go_back(
     requires long { length words.old ≡ length (keys_of table.now.0) }
     requires wide { length adjoints.old ≡ length (keys_of table.now.0) }
     requires fit { is_fit table.now stmt.now ≡ true }
-    requires straight { is_straight_statement (step_back table.now.0 stmt.now) ≡ true }
-    ensures words { words.new ≡ words_before (keys_of table.now.0) words.old (step_back table.now.0 stmt.now) old }
-    ensures adjoints { adjoints.new ≡ adjoints_before (keys_of table.now.0) words.new (step_back table.now.0 stmt.now) adjoints.old }
+    requires straight { is_straight_statement (statement_back table.now.0 stmt.now) ≡ true }
+    ensures words { words.new ≡ words_before (keys_of table.now.0) words.old (statement_back table.now.0 stmt.now) old }
+    ensures adjoints { adjoints.new ≡ adjoints_before (keys_of table.now.0) words.new (statement_back table.now.0 stmt.now) adjoints.old }
 {
     match stmt {
         ResolvedStmt::Assign { target, value, .. } => {
@@ -53,12 +53,12 @@ pub fn reverse(
     requires wide { length adjoints.old ≡ length (keys_of table.now.0) }
     requires taped { length tape.now ≡ length stmts.now }
     requires fit { are_fit table.now stmts.now ≡ true }
-    requires straight { are_straight (map (step_back table.now.0) stmts.now) ≡ true }
+    requires straight { are_straight (map (statement_back table.now.0) stmts.now) ≡ true }
     ensures words { AreWords adjoints.new }
     ensures adjoints { (before : List ℕ)
-        → words.old ≡ words_after_all (keys_of table.now.0) before (map (step_back table.now.0) stmts.now)
-        → tape.now ≡ old_words (keys_of table.now.0) before (map (step_back table.now.0) stmts.now)
-        → adjoints.new ≡ adjoints_before_all (keys_of table.now.0) before (map (step_back table.now.0) stmts.now) adjoints.old }
+        → words.old ≡ words_after_all (keys_of table.now.0) before (map (statement_back table.now.0) stmts.now)
+        → tape.now ≡ old_words (keys_of table.now.0) before (map (statement_back table.now.0) stmts.now)
+        → adjoints.new ≡ adjoints_before_all (keys_of table.now.0) before (map (statement_back table.now.0) stmts.now) adjoints.old }
 {
     let mut at = stmts.len();
     while at > 0 {

@@ -12,7 +12,7 @@ use Rattle.store_core.specs.Places.{shapes_of}
 use Rattle.meaning.specs.Sequential.{are_sequential}
 use Rattle.resolved.specs.declared.resolved.ResolvedStmt.{ResolvedStmt}
 use Rattle.resolved.specs.SlotTables.{Names}
-use Rattle.resolved.specs.Steps.{step_back, steps_back, are_fit, are_statements_placed}
+use Rattle.resolved.specs.ResolvedStmts.{statement_back, statements_back, are_fit, are_statements_placed}
 use Rattle.adjoint_meaning.proofs.Whole.{names_are_scalars}
 use Rattle.one_thread.specs.Bodies.{IsBodyOf}
 use Rattle.one_thread.proofs.Placed.{all_placed, all_sequential, same_lists}
@@ -43,9 +43,9 @@ same_shapes p q values es ds e h l d =
     let decls : ds ≡ p.decls = d ∙ ap (λ (x : Program). x.decls) e in
     ap (with_scalars es) decls ∙ (ap (λ (x : List Shape). with_scalars x p.decls) l ∙ ((names_are_scalars p values h).1 ∙ sym l))
 
-pub body_is : (p q : Program) (names : Names) (stmts : List Stmt) (found : List ResolvedStmt) → q ≡ p → stmts ≡ q.body → steps_back names.0 found ≡ stmt_trees stmts → are_fit names found ≡ true → IsBodyOf p names.0 names found
+pub body_is : (p q : Program) (names : Names) (stmts : List Stmt) (found : List ResolvedStmt) → q ≡ p → stmts ≡ q.body → statements_back names.0 found ≡ stmt_trees stmts → are_fit names found ≡ true → IsBodyOf p names.0 names found
 body_is p q names stmts found e s t f = record {
   shapes_are = refl;
   fit = f;
-  trees = same_lists (map (step_back names.0) found) (map stmt_tree stmts) t ∙ ap (map stmt_tree) (s ∙ ap (λ (x : Program). x.body) e);
+  trees = same_lists (map (statement_back names.0) found) (map stmt_tree stmts) t ∙ ap (map stmt_tree) (s ∙ ap (λ (x : Program). x.body) e);
 }

@@ -12,8 +12,8 @@ use Rattle.store_core.specs.declared.values.Entry.{Entry}
 use Rattle.store_core.specs.Keys.{slot_of}
 use Rattle.store_core.specs.Places.{shapes_of}
 use Rattle.meaning.specs.Sequential.{is_sequential, are_sequential}
-use Rattle.resolved.specs.Codes.{is_placed, are_placed}
-use Rattle.resolved.specs.Steps.{is_statement_placed, are_statements_placed}
+use Rattle.resolved.specs.ResolvedExprs.{is_placed, are_placed}
+use Rattle.resolved.specs.ResolvedStmts.{is_statement_placed, are_statements_placed}
 use Rattle.adjoint_meaning.proofs.Layouts.{is_named, parts, named}
 use Rattle.adjoint_meaning.proofs.Transposed.{declared_by}
 

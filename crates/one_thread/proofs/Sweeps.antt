@@ -14,7 +14,7 @@ use Rattle.meaning.specs.Sites.{Key}
 use Rattle.meaning.specs.Programs.{final_words, adjoint_words}
 use Rattle.resolved.specs.declared.resolved.ResolvedStmt.{ResolvedStmt}
 use Rattle.resolved.specs.SlotTables.{Names}
-use Rattle.resolved.specs.Steps.{step_back}
+use Rattle.resolved.specs.ResolvedStmts.{statement_back}
 use Rattle.adjoint_meaning.specs.Lines.{old_words, words_after, words_after_all, adjoints_before_all}
 use Rattle.adjoint_meaning.specs.Laws.{AreWords}
 use Rattle.adjoint_meaning.proofs.Whole.{words_are_final, adjoints_are_transposed}
@@ -53,19 +53,19 @@ module _ (p : Program) (args : List Entry) (es : List Shape) (names : Names) (st
   pub places_long : (vs : List ℕ) (values : List Entry) → vs ≡ place_words es values → length vs ≡ length (keys_of names.0)
   places_long vs values v = ap length v ∙ (length_places es values ∙ sym (ap (λ (x : List Shape). length (keys_of x)) b.shapes_are))
 
-  pub values_are : (vs : List ℕ) → vs ≡ place_words es args → words_after_all (keys_of names.0) vs (map (step_back names.0) stmts) ≡ final_words (program_tree p) es (place_words es args)
+  pub values_are : (vs : List ℕ) → vs ≡ place_words es args → words_after_all (keys_of names.0) vs (map (statement_back names.0) stmts) ≡ final_words (program_tree p) es (place_words es args)
   values_are vs v =
-      ap (λ (x : List Shape). words_after_all (keys_of x) vs (map (step_back names.0) stmts)) b.shapes_are
+      ap (λ (x : List Shape). words_after_all (keys_of x) vs (map (statement_back names.0) stmts)) b.shapes_are
       ∙ (ap (words_after_all (keys_of es) vs) b.trees
       ∙ (ap (λ (ws : List ℕ). words_after_all (keys_of es) ws (map stmt_tree p.body)) v
       ∙ subst (λ (x : List Shape). words_after_all (keys_of x) (place_words x args) (map stmt_tree p.body) ≡ final_words (program_tree p) x (place_words x args)) (sym l)
       (words_are_final p args (place_words (shapes_of p args) args) h (length_places (shapes_of p args) args))))
 
   pub adjoints_are : (vs bs found : List ℕ) (weights : List Entry) → vs ≡ place_words es args → bs ≡ place_words es weights
-      → found ≡ adjoints_before_all (keys_of names.0) vs (map (step_back names.0) stmts) bs → AreWords found → found ≡ adjoint_words (program_tree p) es (place_words es args) (place_words es weights)
+      → found ≡ adjoints_before_all (keys_of names.0) vs (map (statement_back names.0) stmts) bs → AreWords found → found ≡ adjoint_words (program_tree p) es (place_words es args) (place_words es weights)
   adjoints_are vs bs found weights v w f small =
       let e : found ≡ adjoints_before_all (keys_of es) (place_words es args) (map stmt_tree p.body) (place_words es weights) =
-      f ∙ (ap (λ (x : List Shape). adjoints_before_all (keys_of x) vs (map (step_back names.0) stmts) bs) b.shapes_are
+      f ∙ (ap (λ (x : List Shape). adjoints_before_all (keys_of x) vs (map (statement_back names.0) stmts) bs) b.shapes_are
       ∙ (ap (λ (ss : List Statement). adjoints_before_all (keys_of es) vs ss bs) b.trees
       ∙ (ap (λ (ws : List ℕ). adjoints_before_all (keys_of es) ws (map stmt_tree p.body) bs) v ∙ ap (adjoints_before_all (keys_of es) (place_words es args) (map stmt_tree p.body)) w))) in
       let few : AreWords (adjoints_before_all (keys_of es) (place_words es args) (map stmt_tree p.body) (place_words es weights)) = subst AreWords e small in
@@ -81,7 +81,7 @@ module _ (p : Program) (args : List Entry) (es : List Shape) (names : Names) (st
 
   -- as many statements as the program has
   pub body_long : length stmts ≡ length p.body
-  body_long = sym (length-images (step_back names.0) stmts) ∙ (ap length b.trees ∙ images p.body)
+  body_long = sym (length-images (statement_back names.0) stmts) ∙ (ap length b.trees ∙ images p.body)
     where
       images : (body : List Stmt) → length (map stmt_tree body) ≡ length body
       images body = length-images stmt_tree body

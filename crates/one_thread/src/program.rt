@@ -5,7 +5,7 @@ ghost use Rattle.store_core.specs.Keys.{keys_of};
 ghost use Rattle.store_core.specs.Places.{are_scalars, shapes_of};
 ghost use Rattle.store_core.specs.Filled.{place_words};
 ghost use Rattle.meaning.specs.Programs.{final_words, adjoint_words};
-ghost use Rattle.resolved.specs.Steps.{step_back, are_fit};
+ghost use Rattle.resolved.specs.ResolvedStmts.{statement_back, are_fit};
 ghost use Rattle.adjoint_meaning.specs.Lines.{words_after_all, adjoints_before_all};
 ghost use Rattle.adjoint_meaning.specs.Laws.{AreWords};
 
@@ -40,11 +40,11 @@ fn there_and_back<L: Ledger>(
     requires long { length values.items ≡ length (keys_of table.now.0) }
     requires wide { length adjoints.items ≡ length (keys_of table.now.0) }
     requires fit { are_fit table.now stmts.now ≡ true }
-    requires straight { are_straight (map (step_back table.now.0) stmts.now) ≡ true }
+    requires straight { are_straight (map (statement_back table.now.0) stmts.now) ≡ true }
     ensures values { IfOk result (λ s. s.values.items
-        ≡ words_after_all (keys_of table.now.0) values.items (map (step_back table.now.0) stmts.now)) }
+        ≡ words_after_all (keys_of table.now.0) values.items (map (statement_back table.now.0) stmts.now)) }
     ensures adjoints { IfOk result (λ s. s.adjoints.items
-        ≡ adjoints_before_all (keys_of table.now.0) values.items (map (step_back table.now.0) stmts.now) adjoints.items) }
+        ≡ adjoints_before_all (keys_of table.now.0) values.items (map (statement_back table.now.0) stmts.now) adjoints.items) }
     ensures words { IfOk result (λ s. AreWords s.adjoints.items) }
     ensures ticks { OnOk result (steps.new ≡ steps.old + length stmts.now) }
 {

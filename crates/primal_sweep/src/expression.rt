@@ -3,7 +3,7 @@ ghost use Rattle.store_core.specs.Keys.{keys_of};
 ghost use Rattle.store_core.specs.Places.{are_scalars};
 ghost use Rattle.fl_types.specs.Supported.{is_supported_op};
 ghost use Rattle.fl_types.specs.Straight.{is_straight_expression};
-ghost use Rattle.resolved.specs.Codes.{code_back, is_within};
+ghost use Rattle.resolved.specs.ResolvedExprs.{expression_back, is_within};
 ghost use Rattle.adjoint_meaning.specs.Lines.{operation_word, expression_word};
 
 use fl_ast::BinOp;
@@ -28,8 +28,8 @@ pub fn word_of(layout: &Layout, words: &[u64], expr: &ResolvedExpr) -> Ring
     requires scalars { are_scalars layout.now ≡ true }
     requires long { length words.now ≡ length (keys_of layout.now) }
     requires within { is_within (length layout.now) expr.now ≡ true }
-    requires straight { is_straight_expression (code_back layout.now expr.now) ≡ true }
-    ensures { result ≡ expression_word (keys_of layout.now) words.now (code_back layout.now expr.now) }
+    requires straight { is_straight_expression (expression_back layout.now expr.now) ≡ true }
+    ensures { result ≡ expression_word (keys_of layout.now) words.now (expression_back layout.now expr.now) }
 {
     match expr {
         ResolvedExpr::Lit { word, .. } => Ring::of_word(*word),

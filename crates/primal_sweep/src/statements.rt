@@ -3,7 +3,7 @@ ghost use Rattle.store_core.specs.Keys.{keys_of};
 ghost use Rattle.store_core.specs.Places.{are_scalars};
 ghost use Rattle.fl_types.specs.Straight.{is_straight_statement, are_straight};
 ghost use Rattle.resolved.specs.SlotTables.{Names};
-ghost use Rattle.resolved.specs.Steps.{step_back, is_fit, are_fit};
+ghost use Rattle.resolved.specs.ResolvedStmts.{statement_back, is_fit, are_fit};
 ghost use Rattle.adjoint_meaning.specs.Lines.{words_after, words_after_all, old_word, old_words};
 
 use crate::expression::word_of;
@@ -18,9 +18,9 @@ fn step(table: &SlotTable, stmt: &ResolvedStmt, words: &mut [u64]) -> u64
     requires scalars { are_scalars table.now.0 ≡ true }
     requires long { length words.old ≡ length (keys_of table.now.0) }
     requires fit { is_fit table.now stmt.now ≡ true }
-    requires straight { is_straight_statement (step_back table.now.0 stmt.now) ≡ true }
-    ensures words { words.new ≡ words_after (keys_of table.now.0) words.old (step_back table.now.0 stmt.now) }
-    ensures old { result ≡ old_word (keys_of table.now.0) words.old (step_back table.now.0 stmt.now) }
+    requires straight { is_straight_statement (statement_back table.now.0 stmt.now) ≡ true }
+    ensures words { words.new ≡ words_after (keys_of table.now.0) words.old (statement_back table.now.0 stmt.now) }
+    ensures old { result ≡ old_word (keys_of table.now.0) words.old (statement_back table.now.0 stmt.now) }
 {
     match stmt {
         ResolvedStmt::Assign { target, value, .. } => {
@@ -46,9 +46,9 @@ pub fn forward<L: Ledger>(
     requires scalars { are_scalars table.now.0 ≡ true }
     requires long { length words.old ≡ length (keys_of table.now.0) }
     requires fit { are_fit table.now stmts.now ≡ true }
-    requires straight { are_straight (map (step_back table.now.0) stmts.now) ≡ true }
-    ensures words { OnOk result (words.new ≡ words_after_all (keys_of table.now.0) words.old (map (step_back table.now.0) stmts.now)) }
-    ensures tape { IfOk result (λ tape. tape.items ≡ old_words (keys_of table.now.0) words.old (map (step_back table.now.0) stmts.now)) }
+    requires straight { are_straight (map (statement_back table.now.0) stmts.now) ≡ true }
+    ensures words { OnOk result (words.new ≡ words_after_all (keys_of table.now.0) words.old (map (statement_back table.now.0) stmts.now)) }
+    ensures tape { IfOk result (λ tape. tape.items ≡ old_words (keys_of table.now.0) words.old (map (statement_back table.now.0) stmts.now)) }
     ensures ticks { OnOk result (steps.new ≡ steps.old + length stmts.now) }
 {
     let mut tape = Vec::new(alloc);

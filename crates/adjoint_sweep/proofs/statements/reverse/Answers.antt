@@ -1,6 +1,6 @@
 use Rattle.std.proofs.Common.{◌≡◌, ◌-◌, ◌<◌, suc, length, map, take, arith, subst}
 use Rattle.store_core.specs.Keys.{keys_of}
-use Rattle.resolved.specs.Steps.{step_back}
+use Rattle.resolved.specs.ResolvedStmts.{statement_back}
 use Rattle.adjoint_sweep.proofs.Backwards.{Reached, fit_at, straight_at, one_back}
 use Rattle.adjoint_sweep.proofs.statements.reverse.Goals as goal
 
@@ -18,7 +18,7 @@ loop-at-preserved c = record {
   small = λ k l. (c.type_inv.adjoints k).fits;
   reached = λ before h t.
       let keys = keys_of c.args.table.now.0 in
-      let f = step_back c.args.table.now.0 in
+      let f = statement_back c.args.table.now.0 in
       let k : c.loop-at.at ≡ suc (c.loop-at.at - 1) = omega (arith, c.loop-at-test.true) in
       let l : c.loop-at.at - 1 < length c.args.stmts.now = omega (arith, c.loop-at.invariant.few, c.loop-at-test.true) in
       let r = subst (λ n. Reached keys (map f c.args.stmts.now) before c.loop-at.words c.loop-at.adjoints c.args.adjoints.now (map f (take n c.args.stmts.now))) k (c.loop-at.invariant.reached before h t) in
@@ -29,7 +29,7 @@ loop-at-preserved c = record {
 pub returns-clause-adjoints : goal.returns-clause-adjoints
 returns-clause-adjoints c = λ before h t.
     let keys = keys_of c.args.table.now.0 in
-    let f = step_back c.args.table.now.0 in
+    let f = statement_back c.args.table.now.0 in
     let z : c.loop-at.at ≡ 0 = omega (arith, c.loop-at-test.false) in
     let r = subst (λ n. Reached keys (map f c.args.stmts.now) before c.loop-at.words c.loop-at.adjoints c.args.adjoints.now (map f (take n c.args.stmts.now))) z (c.loop-at.invariant.reached before h t) in
     r.adjoints
