@@ -12,16 +12,13 @@ use Rattle.fl_ast.specs.declared.decl.Decl.{Decl}
 use Rattle.fl_ast.specs.declared.decl.Dim.{Dim}
 use Rattle.fl_ast.specs.declared.stmt.Program.{Program}
 use Rattle.fl_ast.specs.declared.stmt.Stmt.{Stmt}
+use Rattle.fl_types.specs.Sharing.{has_name, is_ring_kind, is_ring_name}
 use Rattle.fl_ast.specs.Tree.{Expression, literal, get, minus, binary, power, call, Expressions, no_expressions, expression, Designator, Statement, assignment, branch, loop, stmt_tree}
-
--- one of the names
-abbrev pub is_among : List ℕ → List (List ℕ) → Bool
-is_among name names = list_any (λ other. bytes_eq other name) names
 
 -- no name stands twice
 abbrev pub all_apart : List (List ℕ) → Bool
 all_apart [] = true
-all_apart (name ∷ names) = not (is_among name names) && all_apart names
+all_apart (name ∷ names) = not (has_name name names) && all_apart names
 
 -- the name of a declaration
 abbrev pub declares : List ℕ → Decl → Bool
@@ -44,20 +41,17 @@ is_assignable ds name = list_any (λ d. declares name d && not (is_read_only d.i
 abbrev pub is_reserved : List ℕ → Bool
 is_reserved name = (ends_with nat_eq name (codes "_b") || starts_with nat_eq name (codes "formad_")) || nat_lt 61 (length name)
 
-abbrev pub is_ring : Kind → Bool
-is_ring kind.Ring = true
-is_ring kind.Index = false
-
 abbrev pub is_scalar : List Dim → Bool
 is_scalar [] = true
 is_scalar (d ∷ ds) = false
 
+-- a scalar argument of the ring kind, of eight bytes
 abbrev pub is_supported_decl : List (List ℕ) → Decl → Bool
-is_supported_decl args d = is_ring d.kind && (is_scalar d.dims && (is_among d.name args && not (is_reserved d.name)))
+is_supported_decl args d = (is_ring_kind d.kind && nat_eq d.bytes 8) && (is_scalar d.dims && (has_name d.name args && not (is_reserved d.name)))
 
 -- an expression of the ring kind
 abbrev pub is_ring_expression : Expression → Bool
-is_ring_expression (literal v k) = is_ring k
+is_ring_expression (literal v k) = is_ring_kind k
 is_ring_expression (get x ss) = true
 is_ring_expression (minus e) = is_ring_expression e
 is_ring_expression (binary o l r) = is_ring_expression l || is_ring_expression r
@@ -148,9 +142,6 @@ is_supported_body ds body = list_all (λ s. is_supported_statement ds (stmt_tree
 unfoldable pub is_supported : Program → Bool
 is_supported p = are_supported_names p && (are_supported_decls p.args p.decls && is_supported_body p.decls p.body)
 
-abbrev pub is_ring_name : List Decl → List ℕ → Bool
-is_ring_name ds name = list_any (λ d. declares name d && is_ring d.kind) ds
-
 -- an argument of the ring kind
 abbrev pub is_ring_argument : Program → List ℕ → Bool
-is_ring_argument p name = is_among name p.args && is_ring_name p.decls name
+is_ring_argument p name = has_name name p.args && is_ring_name p.decls name

@@ -2,21 +2,22 @@
 
 ghost use Rattle.std.specs.Prelude.{◌≡◌};
 ghost use Rattle.fl_ast.specs.Tree.{expr_tree, expr_trees, place_tree, stmt_tree};
+ghost use Rattle.fl_types.specs.Sharing as sharing;
 ghost use Rattle.fl_types.specs.Supported as supported;
 
 use fl_ast::{BinOp, Decl, Expr, Intent, Kind, Name, Place, Program, Stmt};
 
-fn is_among(name: &Name, names: &[Name]) -> bool
-    ensures { result ≡ supported.is_among name.now names.now }
+fn has_name(name: &Name, names: &[Name]) -> bool
+    ensures { result ≡ sharing.has_name name.now names.now }
 {
-    names.iter().any(|other| other.is(name))
+    names.iter().any(|other| name.is(other))
 }
 
 fn all_apart(names: &[Name]) -> bool
     ensures { result ≡ supported.all_apart names.now }
 {
     for (i, name) in names.iter().enumerate() {
-        if is_among(name, &names[i + 1..]) {
+        if has_name(name, &names[i + 1..]) {
             return false;
         }
     }
@@ -64,8 +65,8 @@ fn is_reserved(name: &Name) -> bool
     bytes.ends_with(b"_b") || bytes.starts_with(b"formad_") || bytes.len() > 61
 }
 
-fn is_ring(kind: Kind) -> bool
-    ensures { result ≡ supported.is_ring kind }
+fn is_ring_kind(kind: Kind) -> bool
+    ensures { result ≡ sharing.is_ring_kind kind }
 {
     match kind {
         Kind::Ring => true,
@@ -76,17 +77,20 @@ fn is_ring(kind: Kind) -> bool
 fn is_supported_decl(args: &[Name], decl: &Decl) -> bool
     ensures { result ≡ supported.is_supported_decl args.now decl.now }
 {
-    if !is_ring(decl.kind) || !decl.dims.is_empty() {
+    if !is_ring_kind(decl.kind) || decl.bytes != 8 {
         return false;
     }
-    is_among(&decl.name, args) && !is_reserved(&decl.name)
+    if !decl.dims.is_empty() {
+        return false;
+    }
+    has_name(&decl.name, args) && !is_reserved(&decl.name)
 }
 
 fn is_ring_expression(expr: &Expr) -> bool
     ensures { result ≡ supported.is_ring_expression (expr_tree expr.now) }
 {
     match expr {
-        Expr::Lit { kind, .. } => is_ring(*kind),
+        Expr::Lit { kind, .. } => is_ring_kind(*kind),
         Expr::Get(_) => true,
         Expr::Neg(inner) => is_ring_expression(inner.get()),
         Expr::Bin { left, right, .. } => {
@@ -247,13 +251,13 @@ pub fn is_supported(program: &Program) -> bool
 pub fn is_ring_argument(program: &Program, name: &Name) -> bool
     ensures { result ≡ supported.is_ring_argument program.now name.now }
 {
-    is_among(name, program.args.as_slice()) && is_ring_name(program.decls.as_slice(), name)
+    has_name(name, program.args.as_slice()) && is_ring_name(program.decls.as_slice(), name)
 }
 
 fn is_ring_name(decls: &[Decl], name: &Name) -> bool
-    ensures { result ≡ supported.is_ring_name decls.now name.now }
+    ensures { result ≡ sharing.is_ring_name decls.now name.now }
 {
     decls
         .iter()
-        .any(|decl| decl.name.is(name) && is_ring(decl.kind))
+        .any(|decl| name.is(&decl.name) && is_ring_kind(decl.kind))
 }

@@ -6,12 +6,15 @@ use crate::supported::{is_ring_argument, is_supported};
 use fl_ast::{Name, Program};
 use std::alloc::Global;
 use std::marker::Model;
+use thiserror::Error;
 
 /// Why a program isn't typed.
-#[derive(Debug, Drop)]
+#[derive(Debug, Drop, Error)]
 pub enum TypeError {
     /// The program has something that isn't built yet.
+    #[error("not built")]
     NotBuilt,
+    #[error("no memory")]
     Memory,
 }
 
@@ -39,11 +42,16 @@ impl Model for Typed {
 }
 
 impl Typed {
+    ghost use Rattle.std.specs.Prelude.{map};
+    ghost use Rattle.fl_ast.specs.Tree.{stmt_tree};
+    ghost use Rattle.fl_types.specs.Straight.{are_straight};
     ghost use Rattle.fl_types.specs.Supported.{is_supported, is_ring_argument as is_ring_argument_lem};
 
+    #[tactic(auto, using(crate::proofs::Straight::supported_straight))]
     pub fn program(&self) -> &Program
         ensures program { result.now ≡ self.now }
         ensures built { is_supported self.now ≡ true }
+        ensures straight { are_straight (map stmt_tree self.now.body) ≡ true }
     {
         &self.program
     }

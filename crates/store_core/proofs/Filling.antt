@@ -181,3 +181,11 @@ empty_is [] true h = refl
 empty_is [] false h = absurd (let f : false ≡ true = h.1 refl in cc)
 empty_is (x ∷ xs) true h = absurd (let f : x ∷ xs ≡ [] = h.0 refl in cc)
 empty_is (x ∷ xs) false h = refl
+
+-- words written over as many others
+written_over : (s ws : List ℕ) → length s ≡ length ws → written s 0 ws ≡ ws
+written_over s ws h =
+    written-is s 0 ws (omega arith) ∙ ap (λ ys. ws ++ ys) (drop_all (0 + length ws) s (omega arith)) ∙ append-nil ws
+
+pub written_all : (es : List Shape) (values : List Entry) → written (replicate (length (keys_of es)) 0) 0 (place_words es values) ≡ place_words es values
+written_all es values = written_over _ (place_words es values) (length-replicate (length (keys_of es)) 0 ∙ sym (length_places es values))

@@ -19,6 +19,11 @@ abbrev pub is_empty : {A : Type 0} → List A → Bool
 is_empty [] = true
 is_empty (x ∷ xs) = false
 
+-- all names are scalars
+abbrev pub are_scalars : List Shape → Bool
+are_scalars [] = true
+are_scalars (s ∷ es) = is_empty s.axes && are_scalars es
+
 -- a scalar that is no argument and lives not in a loop alone
 abbrev pub is_local : Program → Decl → Bool
 is_local p d = is_empty d.dims && (not (list_any (λ name. bytes_eq d.name name) p.args) && not (scopes_in d.name (stmt_trees p.body)))

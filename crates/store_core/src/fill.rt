@@ -44,6 +44,15 @@ impl Layout {
         }
     }
 
+    /// The words of all places, 0 where a name has no entry.
+    pub fn words_of(&self, alloc: Global, entries: &[Entry]) -> Result<Vec<u64>, Memory>
+        ensures { IfOk result (λ words. words.items ≡ place_words self.now entries.now) }
+    {
+        let mut store = Store::zeros(alloc, self.count() as usize)?;
+        self.fill(&mut store, 0, entries);
+        Ok(store.into_words())
+    }
+
     /// The store at a run's start: the arguments' words, and 0 in every other cell.
     pub fn opening(&self, alloc: Global, args: &Args) -> Result<Store, Memory>
         ensures words { IfOk result (λ store. store ≡ opening_words self.now args.now.entries) }

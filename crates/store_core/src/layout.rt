@@ -1,6 +1,7 @@
-ghost use Rattle.std.specs.Prelude.{◌≡◌, ◌+◌, ◌*◌, ◌<◌, ◌≤◌, ◌^◌, length, slice_get, List, [], All, IfSome, IfOk, Some, None, option_map, take};
+ghost use Rattle.std.specs.Prelude.{◌≡◌, ◌+◌, ◌*◌, ◌<◌, ◌≤◌, ◌^◌, true, length, slice_get, List, [], All, IfSome, IfOk, Some, None, option_map, take};
 ghost use Rattle.store_core.specs.Keys.{step_of, size_of, offset_of, keys_of, slot_of, place_in_slot, place_of, laid, scalar, HasEachOnce, with_scalars, LaysWithin};
 ghost use Rattle.store_core.specs.Bounds.{IsLow};
+ghost use Rattle.store_core.specs.Places.{are_scalars};
 ghost use Rattle.store_core.specs.declared.layout.LayoutError.TheVariants.{Memory as memory};
 
 use crate::bound::{Axis, size};
@@ -8,6 +9,7 @@ use fl_ast::{Decl, Memory, Name};
 use fl_base::Items;
 use std::alloc::{AllocError, AllocFailed, Global};
 use std::marker::Model;
+use thiserror::Error;
 
 /// A name that has places, with no axes where it is a scalar.
 #[derive(Drop)]
@@ -62,9 +64,11 @@ const PLACES: u32 = 0x10_0000;
 const PLACES_AND_SCALARS: u32 = 0x20_0000;
 
 /// Why there is no layout.
-#[derive(Debug, Drop)]
+#[derive(Debug, Drop, Error)]
 pub enum LayoutError {
+    #[error("too many places")]
     TooManyPlaces,
+    #[error("no memory")]
     Memory,
 }
 
@@ -255,6 +259,16 @@ impl Layout {
         let shape = &self.shapes.as_slice()[slot];
         let axes = shape.axes.as_slice();
         place_from(self.firsts[slot], self.firsts[slot + 1], axes, subscripts)
+    }
+
+    /// The place of a slot's name, where all names are scalars.
+    pub fn scalar_place(&self, slot: usize) -> u32
+        requires within { slot < length self.now }
+        requires scalars { are_scalars self.now ≡ true }
+        ensures value { place_in_slot self.now slot [] ≡ Some result }
+        ensures below { result < length (keys_of self.now) }
+    {
+        self.firsts[slot]
     }
 
     /// The place of a name with subscripts.
