@@ -1,0 +1,2 @@
+//! The law of the reverse part.
+#![tactic(auto)]
