@@ -1,5 +1,8 @@
 -- Which names' values a tree reads.
-use Rattle.std.specs.Prelude.{◌≡◌, ℕ, Bool, true, false, List, [], ◌∷◌}
+use Rattle.std.specs.Prelude.{◌≡◌, ℕ, Bool, true, false, ◌||◌, List, [], ◌∷◌}
+use Rattle.fl_ast.specs.declared.kind.Kind.TheVariants as kind
+use Rattle.fl_ast.specs.declared.kind.Fun.{Fun}
+use Rattle.fl_ast.specs.declared.kind.Fun.TheVariants as fun
 use Rattle.fl_ast.specs.Tree.{Expression, literal, get, minus, binary, power, call, Expressions, no_expressions, expression, Condition, relation, negation, conjunction, disjunction}
 use Rattle.transposition.specs.Spread.{Factor, operand, either, Occurrence}
 use Rattle.transposition.specs.Law.{Use}
@@ -55,3 +58,43 @@ abbrev mutual
   pub QuietAll : (List ℕ → Bool) → Use → Expressions → Type 0
   QuietAll on u no_expressions = Unit {0}
   QuietAll on u (expression a s) = Quiet on u a × QuietAll on u s
+
+abbrev mutual
+  -- the expression is of the ring kind: one of its operands is, subscripts aside
+  pub is_data : (List ℕ → Bool) → Expression → Bool
+  is_data ring (literal n kind.Ring) = true
+  is_data ring (literal n kind.Index) = false
+  is_data ring (get x s) = ring x
+  is_data ring (minus a) = is_data ring a
+  is_data ring (binary o a b) = is_data ring a || is_data ring b
+  is_data ring (power a n) = is_data ring a
+  is_data ring (call f s) = has_data ring s
+
+  pub has_data : (List ℕ → Bool) → Expressions → Bool
+  has_data ring no_expressions = false
+  has_data ring (expression a s) = is_data ring a || has_data ring s
+
+-- two operands are of one kind
+abbrev pub PairOfOneKind : (List ℕ → Bool) → Expressions → Type 0
+PairOfOneKind ring (expression a (expression b no_expressions)) = is_data ring a ≡ is_data ring b
+PairOfOneKind ring _ = Unit {0}
+
+abbrev pub ArgumentsOfOneKind : (List ℕ → Bool) → Fun → Expressions → Type 0
+ArgumentsOfOneKind ring fun.Max s = PairOfOneKind ring s
+ArgumentsOfOneKind ring fun.Min s = PairOfOneKind ring s
+ArgumentsOfOneKind ring fun.Abs s = Unit {0}
+ArgumentsOfOneKind ring fun.Mod s = Unit {0}
+
+abbrev mutual
+  -- `max` and `min` are of operands of one kind, subscripts aside
+  pub Kinded : (List ℕ → Bool) → Expression → Type 0
+  Kinded ring (literal n k) = Unit {0}
+  Kinded ring (get x s) = Unit {0}
+  Kinded ring (minus a) = Kinded ring a
+  Kinded ring (binary o a b) = Kinded ring a × Kinded ring b
+  Kinded ring (power a n) = Kinded ring a
+  Kinded ring (call f s) = ArgumentsOfOneKind ring f s × KindedAll ring s
+
+  pub KindedAll : (List ℕ → Bool) → Expressions → Type 0
+  KindedAll ring no_expressions = Unit {0}
+  KindedAll ring (expression a s) = Kinded ring a × KindedAll ring s

@@ -17,7 +17,7 @@ use Rattle.transposition.specs.Spread.{occurrences}
 use Rattle.transposition.specs.Back.{rest_occurrences}
 use Rattle.transposition.specs.Law.{Use}
 use Rattle.transposition.specs.Calms.{AreFlat}
-use Rattle.transposition.specs.Needs.{Needs, NeedsAll, NeedsEach, Quiet}
+use Rattle.transposition.specs.Needs.{Needs, NeedsAll, NeedsEach, Quiet, Kinded}
 
 abbrev pub NeedsTerms : Use → List Signed → Type 0
 NeedsTerms u [] = Unit {0}
@@ -26,6 +26,10 @@ NeedsTerms u (r ∷ rs) = Needs u r.1 × NeedsTerms u rs
 abbrev pub QuietTerms : (List ℕ → Bool) → Use → List Signed → Type 0
 QuietTerms on u [] = Unit {0}
 QuietTerms on u (r ∷ rs) = Quiet on u r.1 × QuietTerms on u rs
+
+abbrev pub KindedTerms : (List ℕ → Bool) → List Signed → Type 0
+KindedTerms ring [] = Unit {0}
+KindedTerms ring (r ∷ rs) = Kinded ring r.1 × KindedTerms ring rs
 
 -- an assignment's target
 pub record SoundTarget (w : World) (u : Use) (p : Designator) : Type 0 where
@@ -41,11 +45,13 @@ pub record SoundPlain (w : World) (u : Use) (p : Designator) (e : Expression) : 
   pub target : SoundTarget w u p
   pub amounts : w.active p.name ≡ true → NeedsEach u (occurrences w.active e false [])
   pub quiet : w.active p.name ≡ true → Quiet w.active u e
+  pub kinds : w.active p.name ≡ true → Kinded w.site.ring e
 
 pub record SoundIncrement (w : World) (u : Use) (p : Designator) (rs : List Signed) : Type 0 where
   pub target : SoundTarget w u p
   pub amounts : w.active p.name ≡ true → NeedsEach u (rest_occurrences w.active rs)
   pub quiet : w.active p.name ≡ true → QuietTerms w.active u rs
+  pub kinds : w.active p.name ≡ true → KindedTerms w.site.ring rs
   pub terms : w.site.pushed p.name ≡ true → NeedsTerms u rs
   pub apart : are_free_of p.name rs ≡ true
   pub whole : w.site.ring p.name ≡ true

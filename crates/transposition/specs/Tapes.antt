@@ -1,6 +1,7 @@
 -- The tape that a run leaves, read off its log: words, and for each parallel loop the tapes of its iterations.
 use Rattle.std.specs.Prelude.{ℕ, zero, suc}
 use Rattle.meaning.specs.Logs.{Log, silence, single, touched, sets, both, within, Event, begins, touches, pushes, ends, traps, instance, right_side, rounds, turn, iteration, condition, taken}
+use Rattle.meaning.specs.Sites.{word_of}
 
 mutual
   -- the newest on top
@@ -46,7 +47,7 @@ top_tapes empty = none
 abbrev pub with_event : Event → Tape → Tape
 with_event begins t = t
 with_event (touches u) t = t
-with_event (pushes x) t = word x t
+with_event (pushes v) t = word (word_of v) t
 with_event (ends line) t = t
 with_event (traps u) t = t
 
