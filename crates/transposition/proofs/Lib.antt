@@ -10,3 +10,6 @@ pub mod Spreading
 pub mod Bounds
 pub mod ValueKinds
 pub mod Calculus
+pub mod Taping
+pub mod Plain
+pub mod Increments
