@@ -13,3 +13,7 @@ pub mod Calculus
 pub mod Taping
 pub mod Plain
 pub mod Increments
+pub mod Sizes
+pub mod Stills
+pub mod Kept
+pub mod Runs
