@@ -17,3 +17,7 @@ pub mod Sizes
 pub mod Stills
 pub mod Kept
 pub mod Runs
+pub mod Undone
+pub mod Clears
+pub mod Rounds
+pub mod Privates

@@ -1,5 +1,5 @@
 -- What the sets of names must meet, statement by statement.
-use Rattle.std.specs.Prelude.{◌≡◌, ℕ, ◌<◌, ◌≤◌, ◌^◌, ◌||◌, Bool, true, false, cond, bytes_eq, List, [], ◌∷◌, Option, Some, None}
+use Rattle.std.specs.Prelude.{◌≡◌, ℕ, suc, ◌<◌, ◌≤◌, ◌^◌, ◌||◌, Bool, true, false, cond, bytes_eq, List, [], ◌∷◌, Option, Some, None}
 use Rattle.fl_ast.specs.declared.kind.Kind.TheVariants as kind
 use Rattle.fl_ast.specs.Tree.{Expression, literal, get, minus, binary, power, call, Expressions, no_expressions, expression, Designator, Statement, assignment, branch, loop, Statements, no_statements, statement, Arms, no_arms, arm}
 use Rattle.fl_ast.specs.Occurs.{occurs_in_any}
@@ -188,11 +188,15 @@ abbrev pub HeadLiterals : Option Head → Type 0
 HeadLiterals None = Unit {0}
 HeadLiterals (Some h) = Literals h.first × Literals h.last × OptionLiterals h.step
 
--- all statements; the loops in a parallel loop are sequential
+abbrev pub arm_count : Arms → ℕ
+arm_count no_arms = 0
+arm_count (arm test body arms) = suc (arm_count arms)
+
+-- all statements; the loops in a parallel loop are sequential, and an arm's number is a word
 abbrev mutual
   pub Sound : World → Use → Statement → Type 0
   Sound w u (assignment line atomic p e) = SoundAssigned w u p e (increment_terms w.site.ring p e)
-  Sound w u (branch line arms other) = SoundArms w u arms × SoundAll w u other
+  Sound w u (branch line arms other) = (arm_count arms < 2 ^ 64) × SoundArms w u arms × SoundAll w u other
   Sound w u (loop line number None var first last step body) =
       SoundVariable w u var first last step × (writes_in var body ≡ false) × SoundAll (in_turn w var) (scope_with var u) body
   Sound w u (loop line number (Some directive) var first last step body) =
