@@ -21,3 +21,6 @@ pub mod Undone
 pub mod Clears
 pub mod Rounds
 pub mod Privates
+pub mod Heads
+pub mod Nesting
+pub mod Iterations
