@@ -24,3 +24,4 @@ pub mod Privates
 pub mod Heads
 pub mod Nesting
 pub mod Iterations
+pub mod Parallel
