@@ -25,3 +25,4 @@ pub mod Heads
 pub mod Nesting
 pub mod Iterations
 pub mod Parallel
+pub mod Whole
