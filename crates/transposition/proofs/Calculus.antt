@@ -1,22 +1,20 @@
 -- What the occurrences of an expression are worth together: the sign, the product so far and the expression's tangent.
-use Rattle.std.proofs.Common.{◌≡◌, ℕ, zero, suc, ◌+◌, ◌-◌, ◌*◌, ◌%◌, ◌<◌, ◌≤◌, ◌^◌, List, [], ◌∷◌, ◌++◌, refl, ap, sym, ◌∙◌, subst, arith, Bool, true, false, not, cond, Option, Some, None, Result, Ok, Err, inl, inr, ℤ, pos}
-use Rattle.std.specs.Prelude.{◌⊎◌, int_le, int_lt, if◌then◌else◌}
+use Rattle.std.proofs.Common.{◌≡◌, ℕ, zero, suc, ◌+◌, ◌*◌, ◌%◌, ◌^◌, List, [], ◌∷◌, ◌++◌, refl, ap, sym, ◌∙◌, subst, arith, Bool, true, false, not, cond, Ok, Err, ℤ, pos}
+use Rattle.std.specs.Prelude.{int_lt, if◌then◌else◌}
 use Rattle.std.specs.Int.{int_pow}
 use Rattle.ring_core.specs.declared.ring.Width.{Width}
-use Rattle.ring_core.specs.Ring.{ring_add, ring_mul, ring_pow}
+use Rattle.ring_core.specs.Ring.{ring_mul, ring_pow}
 use Rattle.ring_core.specs.Index.{exact_index, fits_index}
-use Rattle.pairing.specs.Ring.{big, last, Same, factor}
-use Rattle.pairing.proofs.Sames.{of_equal, same_sum, same_product, strip_mul}
+use Rattle.pairing.specs.Ring.{big, last, Same}
+use Rattle.pairing.proofs.Sames.{of_equal, same_sum, same_product}
 use Rattle.fl_ast.specs.declared.kind.Kind.TheVariants as kind
 use Rattle.fl_ast.specs.declared.kind.BinOp.{BinOp}
 use Rattle.fl_ast.specs.declared.kind.BinOp.TheVariants.{Add, Sub, Mul, Div}
 use Rattle.fl_ast.specs.declared.kind.RelOp.{RelOp}
 use Rattle.fl_ast.specs.declared.kind.RelOp.TheVariants as rel
-use Rattle.fl_ast.specs.declared.kind.Fun.{Fun}
 use Rattle.fl_ast.specs.declared.kind.Fun.TheVariants.{Max, Min, Abs, Mod}
-use Rattle.fl_ast.specs.Tree.{Expression, literal, get, minus, binary, power, call, Expressions, no_expressions, expression, Designator, Condition, relation}
+use Rattle.fl_ast.specs.Tree.{Expression, literal, get, minus, binary, power, call, Expressions, no_expressions, expression, relation}
 use Rattle.fl_types.specs.declared.access.AccessKind.TheVariants.{Read}
-use Rattle.ring_core.specs.declared.index.IndexTrap.{IndexTrap}
 use Rattle.ring_core.specs.declared.index.IndexTrap.TheVariants as index_trap
 use Rattle.std.proofs.Math.Nat.{pow-suc, pow-zero}
 use Rattle.meaning.proofs.Powers.{value_of_pow}
@@ -25,21 +23,21 @@ use Rattle.meaning.specs.declared.value.Dual.{Dual}
 use Rattle.meaning.specs.declared.value.Value.{Value}
 use Rattle.meaning.specs.declared.value.Value.TheVariants.{Index, Ring}
 use Rattle.meaning.specs.declared.value.Cause.{Cause}
-use Rattle.meaning.specs.Values.{Found, of_index, dual_pow, as_dual, rank, whole_numbers, literal_value, binary_result, negation_result, power_result, larger_result, smaller_result, absolute_result, remainder, on_one, on_two, call_result, relates}
-use Rattle.meaning.specs.Logs.{Log, silence, single, both, Traced, pure, lift, after, ◌>>=◌}
+use Rattle.meaning.specs.Values.{Found, of_index, dual_pow, rank, whole_numbers, literal_value, binary_result, negation_result, power_result, larger_result, smaller_result, absolute_result, remainder, on_one, on_two, call_result, relates}
+use Rattle.meaning.specs.Logs.{Log, silence, both, Traced, pure, lift, after, ◌>>=◌}
 use Rattle.meaning.specs.Sites.{Cells, Site, place_of}
-use Rattle.meaning.specs.Expressions.{content, read, read_place, value_of, values_of, holds}
+use Rattle.meaning.specs.Expressions.{content, read, value_of, values_of, holds}
 use Rattle.meaning.specs.Adjoints.{tangent_of}
 use Rattle.transposition.specs.Worlds.{World, name_at}
 use Rattle.transposition.specs.Spread.{Factor, operand, either, Occurrence, power_factors, minus_one, occurrences, of_two, of_one, with_sign}
-use Rattle.transposition.specs.Law.{Use, Fit, HasTouch, HasDifferentiatedRead}
+use Rattle.transposition.specs.Law.{Use, Fit}
 use Rattle.transposition.specs.Needs.{is_data, PairOfOneKind, Kinded, KindedAll, Quiet, QuietAll}
-use Rattle.transposition.proofs.Keys.{Stands, stands}
+use Rattle.transposition.proofs.Keys.{stands}
 use Rattle.transposition.proofs.ValueKinds.{is_ring, value_kind, larger_is, smaller_is, negative_is}
-use Rattle.transposition.proofs.Tangents.{negated_still, worth, moves, moves_is, Moves, moves_of, sum_of, binary_moves, negated_moves, remainder_moves, signed_is, scaled, turned, power_none, power_some, power_index, literal_moves}
-use Rattle.transposition.proofs.Reading.{TouchesIn, Placed}
-use Rattle.transposition.proofs.Bounds.{Bound, bound, Inside, inside_left, inside_right, ReadAt, read_inverted, Listed, listed, bound_back, told_both}
-use Rattle.transposition.proofs.Spreading.{KnownValue, KnownTest, Known, Product, product_last, product_more, silent, Worth, Sum, sum_both}
+use Rattle.transposition.proofs.Tangents.{negated_still, worth, moves, moves_is, moves_of, sum_of, binary_moves, negated_moves, remainder_moves, scaled, turned, power_none, power_some, power_index, literal_moves}
+use Rattle.transposition.proofs.Reading.{TouchesIn}
+use Rattle.transposition.proofs.Bounds.{Bound, bound, Inside, inside_left, inside_right, ReadAt, read_inverted, listed, bound_back, told_both}
+use Rattle.transposition.proofs.Spreading.{KnownValue, KnownTest, Product, product_last, product_more, silent, Sum, sum_both}
 
 pub record Sums (w : World) (s : Cells) (ts : Log) (a : ℕ) (os : List Occurrence) (y : ℕ) : Type 0 where
   pub z : ℕ
@@ -86,8 +84,11 @@ get_sums w u s ts x ss less fs a n b fit on quiet prod ins v h = by_test b on qu
 
     by_test : (b : Bool) → w.active x ≡ b → (b ≡ false → u.moved x ≡ false) → Sums w s ts a (if b then record { place = record { name = x; subscripts = ss }; negative = less; factors = fs } ∷ [] else []) (with_sign less n * moves v)
     by_test true e q = record {
-        z = with_sign less n * tangent_of (content s at.p);
-        sum = (with_sign less n * tangent_of (content s at.p), 0, record {
+      z = with_sign less n * tangent_of (content s at.p);
+      sum = (
+        with_sign less n * tangent_of (content s at.p),
+        0,
+        record {
           n = n;
           product = prod;
           p = at.p;
@@ -95,9 +96,12 @@ get_sums w u s ts x ss less fs a n b fit on quiet prod ins v h = by_test b on qu
           read = λ i. self.told Read at.p (at.touched i);
           differentiated = λ i. self.reads at.p (at.touched i);
           amount = refl;
-        }, refl, omega arith);
-        same = of_equal _ _ (ap (λ (m : ℕ). with_sign less n * m) here);
-      }
+        },
+        refl,
+        omega arith,
+      );
+      same = of_equal _ _ (ap (λ (m : ℕ). with_sign less n * m) here);
+    }
     by_test false e q = none_sums w s ts a less n (moves v) (subst (λ (m : ℕ). Same m 0) here (fit.still at.p (ap u.moved named ∙ q refl)))
 
 -- ---- the ring equations
@@ -156,33 +160,33 @@ itself v = let e = pow-suc v 0 in let f = pow-zero v in let g : v ^ 1 ≡ v = e 
 
 power_step : (w : World) (s : Cells) (ts : Log) (b : Expression) (n : ℕ) (vb v : Value) → KnownValue w s ts b (worth vb) → (value_of b w.site s).out ≡ Ok vb → (p : ℕ) → power_result vb p ≡ Ok v → PowerStep w s ts b p n vb v
 power_step w s ts b n vb v k o zero h = record {
-    m = ring_mul n 0;
-    product = (0, number_known w s ts 0, refl);
-    same = λ less. scaled less n 0 (moves vb) ∙ of_equal _ _ (let e : moves v ≡ 0 = moves_of (power_result vb 0) (λ m. m ≡ 0) v h (power_none vb) in rw e (omega arith));
-  }
+  m = ring_mul n 0;
+  product = (0, number_known w s ts 0, refl);
+  same = λ less. scaled less n 0 (moves vb) ∙ of_equal _ _ (let e : moves v ≡ 0 = moves_of (power_result vb 0) (λ m. m ≡ 0) v h (power_none vb) in rw e (omega arith));
+}
 power_step w s ts b n (Index z) v k o (suc zero) h = record {
-    m = n;
-    product = refl;
-    same = λ less. of_equal _ _ (ap (λ (m : ℕ). with_sign less n * m) (sym (moves_of (power_result (Index z) 1) (λ m. m ≡ 0) v h (power_index z 1))));
-  }
+  m = n;
+  product = refl;
+  same = λ less. of_equal _ _ (ap (λ (m : ℕ). with_sign less n * m) (sym (moves_of (power_result (Index z) 1) (λ m. m ≡ 0) v h (power_index z 1))));
+}
 power_step w s ts b n (Ring d) v k o (suc zero) h = record {
-    m = n;
-    product = refl;
-    same = λ less. same_product (with_sign less n) (with_sign less n) d.tangent (moves v) refl (sym (moves_of (power_result (Ring d) 1) (λ m. Same m d.tangent) v h one_power));
-  }
+  m = n;
+  product = refl;
+  same = λ less. same_product (with_sign less n) (with_sign less n) d.tangent (moves v) refl (sym (moves_of (power_result (Ring d) 1) (λ m. Same m d.tangent) v h one_power));
+}
   where
     one_power : Same (dual_pow d 1).tangent d.tangent
     one_power = power_some d 0 ∙ of_equal _ _ (rw (one_of_none d.value) (omega arith))
 power_step w s ts b n (Index z) v k o (suc (suc zero)) h = record {
-    m = ring_mul (ring_mul n 2) (worth (Index z));
-    product = (2, number_known w s ts 2, (worth (Index z), k, refl));
-    same = λ less. of_equal _ _ (let e : moves v ≡ 0 = moves_of (power_result (Index z) 2) (λ m. m ≡ 0) v h (power_index z 2) in rw e (omega arith));
-  }
+  m = ring_mul (ring_mul n 2) (worth (Index z));
+  product = (2, number_known w s ts 2, (worth (Index z), k, refl));
+  same = λ less. of_equal _ _ (let e : moves v ≡ 0 = moves_of (power_result (Index z) 2) (λ m. m ≡ 0) v h (power_index z 2) in rw e (omega arith));
+}
 power_step w s ts b n (Ring d) v k o (suc (suc zero)) h = record {
-    m = ring_mul (ring_mul n 2) d.value;
-    product = (2, number_known w s ts 2, (d.value, k, refl));
-    same = λ less. scaled less (ring_mul n 2) d.value d.tangent ∙ (scaled less n 2 (d.value * d.tangent) ∙ same_product (with_sign less n) (with_sign less n) _ (moves v) refl (sym (moves_of (power_result (Ring d) 2) (λ m. Same m (2 * (d.value * d.tangent))) v h two)));
-  }
+  m = ring_mul (ring_mul n 2) d.value;
+  product = (2, number_known w s ts 2, (d.value, k, refl));
+  same = λ less. scaled less (ring_mul n 2) d.value d.tangent ∙ (scaled less n 2 (d.value * d.tangent) ∙ same_product (with_sign less n) (with_sign less n) _ (moves v) refl (sym (moves_of (power_result (Ring d) 2) (λ m. Same m (2 * (d.value * d.tangent))) v h two)));
+}
   where
     two : Same (dual_pow d 2).tangent (2 * (d.value * d.tangent))
     two = power_some d 1 ∙ same_product 2 2 _ _ refl (same_product (ring_pow d.value 1) d.value d.tangent d.tangent (itself d.value) refl)
@@ -190,7 +194,7 @@ power_step w s ts b n (Index z) v k o (suc (suc (suc q))) h =
     let fits : fits_index (int_pow z (suc (suc q))) ≡ true = powers_fit z (suc (suc q)) (omega arith) (fitted_fits (int_pow z (suc (suc (suc q)))) v h) in
     let found : power_result (Index z) (suc (suc q)) ≡ Ok (Index (int_pow z (suc (suc q)))) = fits_found (int_pow z (suc (suc q))) fits in
     let before-last : KnownValue w s ts (power b (suc (suc q))) (worth (Index (int_pow z (suc (suc q))))) =
-        record { v = Index (int_pow z (suc (suc q))); out = ap (λ (t : Traced Cause Value). t.out) (bound_back (value_of b w.site s) (λ x. lift (power_result x (suc (suc q)))) (Index z) o) ∙ found; worth = refl; told = power_told w s ts b (Index z) (suc (suc q)) o (known_told w s ts b (Index z) k) } in
+    record { v = Index (int_pow z (suc (suc q))); out = ap (λ (t : Traced Cause Value). t.out) (bound_back (value_of b w.site s) (λ x. lift (power_result x (suc (suc q)))) (Index z) o) ∙ found; worth = refl; told = power_told w s ts b (Index z) (suc (suc q)) o (known_told w s ts b (Index z) k) } in
     record {
       m = ring_mul (ring_mul n (suc (suc (suc q)))) (worth (Index (int_pow z (suc (suc q)))));
       product = (suc (suc (suc q)), number_known w s ts (suc (suc (suc q))), (worth (Index (int_pow z (suc (suc q)))), before-last, refl));
@@ -199,7 +203,7 @@ power_step w s ts b n (Index z) v k o (suc (suc (suc q))) h =
 power_step w s ts b n (Ring d) v k o (suc (suc (suc q))) h =
     let x : ℕ = ring_pow d.value (suc (suc q)) in
     let before-last : KnownValue w s ts (power b (suc (suc q))) x =
-        record { v = Ring (dual_pow d (suc (suc q))); out = ap (λ (t : Traced Cause Value). t.out) (bound_back (value_of b w.site s) (λ x. lift (power_result x (suc (suc q)))) (Ring d) o); worth = sym (value_of_pow d (suc (suc q))); told = power_told w s ts b (Ring d) (suc (suc q)) o (known_told w s ts b (Ring d) k) } in
+    record { v = Ring (dual_pow d (suc (suc q))); out = ap (λ (t : Traced Cause Value). t.out) (bound_back (value_of b w.site s) (λ x. lift (power_result x (suc (suc q)))) (Ring d) o); worth = sym (value_of_pow d (suc (suc q))); told = power_told w s ts b (Ring d) (suc (suc q)) o (known_told w s ts b (Ring d) k) } in
     record {
       m = ring_mul (ring_mul n (suc (suc (suc q)))) x;
       product = (suc (suc (suc q)), number_known w s ts (suc (suc (suc q))), (x, before-last, refl));
@@ -219,7 +223,7 @@ test_known : (w : World) (s : Cells) (ts : Log) (o : RelOp) (a b : Expression) (
     → KnownTest w s ts n m (relation o a b) (cond (relates w.site.width o va vb) n m)
 test_known w s ts o a b va vb n m f g i j =
     let e : holds (relation o a b) w.site s ≡ after (value_of a w.site s).log (after (value_of b w.site s).log (pure (relates w.site.width o va vb))) =
-        bound_back (value_of a w.site s) (λ x. value_of b w.site s >>= (λ y. pure (relates w.site.width o x y))) va f ∙ ap (λ (t : Traced Cause Bool). after (value_of a w.site s).log t) (bound_back (value_of b w.site s) (λ y. pure (relates w.site.width o va y)) vb g) in
+    bound_back (value_of a w.site s) (λ x. value_of b w.site s >>= (λ y. pure (relates w.site.width o x y))) va f ∙ ap (λ (t : Traced Cause Bool). after (value_of a w.site s).log t) (bound_back (value_of b w.site s) (λ y. pure (relates w.site.width o va y)) vb g) in
     record {
       b = relates w.site.width o va vb;
       out = ap (λ (t : Traced Cause Bool). t.out) e;

@@ -1,5 +1,5 @@
 -- Values without their tangents: operations give the same, without tangents.
-use Rattle.std.proofs.Common.{◌≡◌, ℕ, zero, suc, ◌+◌, ◌*◌, ◌%◌, ◌<◌, ◌^◌, List, [], ◌∷◌, refl, ap, sym, ◌∙◌, subst, arith, Bool, true, false, Some, Result, Ok, Err, ℤ, pos, negsuc}
+use Rattle.std.proofs.Common.{◌≡◌, ℕ, zero, suc, ◌<◌, ◌^◌, List, [], ◌∷◌, refl, ap, ◌∙◌, arith, Bool, true, false, Some, Result, Ok, Err, ℤ, pos, negsuc}
 use Rattle.std.specs.Prelude.{int_le, int_lt, if◌then◌else◌}
 use Rattle.std.specs.Int.{w64, cast_signed, cast_unsigned}
 use Rattle.std.proofs.lemmas.Int.{to_z-of_z}
@@ -10,19 +10,18 @@ use Rattle.fl_ast.specs.declared.kind.Kind.TheVariants as kind
 use Rattle.fl_ast.specs.declared.kind.BinOp.{BinOp}
 use Rattle.fl_ast.specs.declared.kind.BinOp.TheVariants.{Add, Sub, Mul, Div}
 use Rattle.fl_ast.specs.declared.kind.RelOp.{RelOp}
-use Rattle.fl_ast.specs.declared.kind.RelOp.TheVariants.{Eq, Ne, Lt, Le, Gt, Ge}
 use Rattle.fl_ast.specs.declared.kind.Fun.{Fun}
 use Rattle.fl_ast.specs.declared.kind.Fun.TheVariants.{Max, Min, Abs, Mod}
 use Rattle.ring_core.specs.declared.ring.Width.{Width}
-use Rattle.ring_core.specs.Ring.{ring_add, ring_sub, ring_mul, ring_neg}
+use Rattle.ring_core.specs.Ring.{ring_mul}
 use Rattle.ring_core.specs.Index.{IsIndex}
 use Rattle.ring_core.specs.declared.index.IndexTrap.{IndexTrap}
 use Rattle.meaning.specs.declared.value.Dual.{Dual}
 use Rattle.meaning.specs.declared.value.Value.{Value}
 use Rattle.meaning.specs.declared.value.Value.TheVariants.{Index, Ring}
-use Rattle.meaning.specs.Values.{Found, of_index, dual_add, dual_sub, dual_neg, dual_mul, dual_pow, as_dual, rank, ranks, compares, whole_number, whole_numbers, literal_value, index_result, ring_result, binary_result, negation_result, power_result, larger_result, smaller_result, absolute_result, remainder, on_one, on_two, call_result, relates}
+use Rattle.meaning.specs.Values.{Found, of_index, dual_mul, dual_pow, as_dual, rank, ranks, compares, whole_numbers, literal_value, index_result, ring_result, binary_result, negation_result, power_result, larger_result, smaller_result, absolute_result, remainder, on_one, on_two, call_result, relates}
 use Rattle.meaning.specs.Sites.{word_of}
-use Rattle.transposition.specs.Reads.{value_from, value_or_zero}
+use Rattle.transposition.specs.Reads.{value_from}
 use Rattle.transposition.specs.Law.{HasKind}
 
 abbrev pub flat_value : Value → Value

@@ -1,23 +1,20 @@
 -- The heads of a parallel loop: their bounds on the tape, and their variables in an iteration.
-use Rattle.std.proofs.Common.{◌≡◌, ◌≢◌, ℕ, zero, suc, ◌+◌, ◌-◌, ◌*◌, ◌<◌, ◌≤◌, ◌==◌, List, [], ◌∷◌, refl, ap, sym, ◌∙◌, subst, arith, length, take, drop, map, Bool, true, false, ◌||◌, Option, Some, None, Result, Ok, Err, ℤ, pos, inl, inr}
-use Rattle.std.specs.Prelude.{◌⊎◌, ◌/◌, ◌%◌, slice_index, slice_set, bytes_eq, int_div, ◌+ℤ◌, ◌-ℤ◌, if◌then◌else◌}
+use Rattle.std.proofs.Common.{◌≡◌, ◌≢◌, ℕ, zero, suc, ◌*◌, ◌<◌, List, [], ◌∷◌, refl, ap, sym, ◌∙◌, subst, arith, length, take, drop, Bool, true, false, ◌||◌, Option, Some, None, Ok, ℤ, inr}
+use Rattle.std.specs.Prelude.{◌/◌, ◌%◌, slice_index, slice_set, bytes_eq, int_div, ◌+ℤ◌, ◌-ℤ◌}
 use Rattle.std.specs.Int.{w64, cast_unsigned}
 use Rattle.std.proofs.Math.Nat.{div-lt_iff_lt-mul, mod-lt}
-use Rattle.std.proofs.lemmas.Bool.{eqb-true, eq-eqb}
 use Rattle.std.proofs.lemmas.Slice.Eq.{bytes_eq-Decides}
 use Rattle.std.proofs.lemmas.List.{length-set, get_or-set_same, get_or-set_other}
 use Rattle.ring_core.specs.Index.{IsIndex}
 use Rattle.store_core.specs.Bounds.{clipped}
-use Rattle.fl_ast.specs.declared.directive.Directive.{Directive}
-use Rattle.fl_ast.specs.Tree.{Expression, Statements}
-use Rattle.fl_types.specs.declared.access.AccessKind.{AccessKind}
-use Rattle.fl_types.specs.Nests.{Head, further_head}
+use Rattle.fl_ast.specs.Tree.{Expression}
+use Rattle.fl_types.specs.Nests.{Head}
 use Rattle.fl_types.specs.Sharing.{has_name}
 use Rattle.meaning.specs.declared.value.Value.{Value}
-use Rattle.meaning.specs.declared.value.Value.TheVariants.{Index, Ring}
+use Rattle.meaning.specs.declared.value.Value.TheVariants.{Index}
 use Rattle.meaning.specs.declared.value.TrapAt.{TrapAt}
 use Rattle.meaning.specs.declared.value.IterationCount.{IterationCount}
-use Rattle.meaning.specs.Logs.{Log, Traced, pure, after, at_line, ◌>>=◌}
+use Rattle.meaning.specs.Logs.{Log, Traced, pure, at_line, ◌>>=◌}
 use Rattle.meaning.specs.Sites.{Cells, Site, place_of, kind_of}
 use Rattle.meaning.specs.Expressions.{content}
 use Rattle.meaning.specs.Statements.{Run, turns_of, value_at, set_at, set_log_at, with_variable, with_variables, Heads, iterations, words_of_all, further_turns, heads_of}
@@ -25,16 +22,16 @@ use Rattle.meaning.proofs.Variables.{variables_fit}
 use Rattle.transposition.specs.Tapes.{Tape, word, tape_after}
 use Rattle.transposition.specs.Worlds.{World, Local, name_at, with_value}
 use Rattle.transposition.specs.Reads.{place_or_zero}
-use Rattle.transposition.specs.Back.{turns_on, below_bounds, heads_on, variables_of, loop_variables, with_variable_words}
-use Rattle.transposition.specs.Law.{Use, local, Fit, HasKind, HasTouch, HasDifferentiatedRead, Within}
-use Rattle.transposition.specs.Sound.{Own, AllOwn, Literals, OptionLiterals, HeadLiterals}
+use Rattle.transposition.specs.Back.{turns_on, below_bounds, heads_on, variables_of, with_variable_words}
+use Rattle.transposition.specs.Law.{Use, local, Fit, HasKind, Within}
+use Rattle.transposition.specs.Sound.{AllOwn, Literals, OptionLiterals, HeadLiterals}
 use Rattle.transposition.proofs.Split.{set_own, cells_kept}
-use Rattle.transposition.proofs.Keys.{Stands, stands}
+use Rattle.transposition.proofs.Keys.{stands}
 use Rattle.transposition.proofs.Places.{content_set_same, content_set_other}
-use Rattle.transposition.proofs.Bounds.{Bound, bound}
+use Rattle.transposition.proofs.Bounds.{bound}
 use Rattle.transposition.proofs.Kept.{fit_set}
-use Rattle.transposition.proofs.Runs.{Lined, lined, TurnsRun, turns_run}
-use Rattle.transposition.proofs.Taping.{Wordless, wordless_bind}
+use Rattle.transposition.proofs.Runs.{lined, TurnsRun, turns_run}
+use Rattle.transposition.proofs.Taping.{Wordless}
 use Rattle.transposition.proofs.Undone.{turns_back_on, turns_wordless}
 
 -- ---- bounds
@@ -174,10 +171,10 @@ set_wordless (Some p) v t = refl
 
 one_setting : (site : Site) (on : List ℕ → Bool) (x : List ℕ) (z : ℤ) (f : Run) (s : Cells) (a : Traced TrapAt Cells) → SettingRun site on (f (set_at (place_of site x []) (Some (Index z)) s)) a → SettingRun site on (with_variable site x z f s) a
 one_setting site on x z f s a h = record {
-    out = h.out;
-    tape = λ t. ap (tape_after (f (set_at (place_of site x []) (Some (Index z)) s)).log) (set_wordless (place_of site x []) (Some (Index z)) t) ∙ h.tape t;
-    within = record { touches = λ k p i. inr (h.within.touches k p i); differentiated = λ p i. inr (h.within.differentiated p i) };
-  }
+  out = h.out;
+  tape = λ t. ap (tape_after (f (set_at (place_of site x []) (Some (Index z)) s)).log) (set_wordless (place_of site x []) (Some (Index z)) t) ∙ h.tape t;
+  within = record { touches = λ k p i. inr (h.within.touches k p i); differentiated = λ p i. inr (h.within.differentiated p i) };
+}
 
 itself : (site : Site) (on : List ℕ → Bool) (a : Traced TrapAt Cells) → SettingRun site on a a
 itself site on a = record { out = refl; tape = λ t. refl; within = record { touches = λ k p i. i; differentiated = λ p i. i } }
@@ -234,18 +231,18 @@ variables_set w (x ∷ xs) s t vs bs h =
     let k = variables_set w xs s1 t (slice_set vs q n) bs h.1 in
     let first-cells : set_cells w.site (x ∷ xs) s ≡ set_cells w.site xs s1 = ap (set_cells w.site xs) (set_at_is w.site x.0 q (Some (Index x.1)) s h.0.place) in
     let first : with_value w (place_or_zero (place_of w.site x.0 [])) n (local w.shared t vs bs) ≡ local w.shared t (slice_set vs q n) bs =
-        ap (λ (o : Option ℕ). with_value w (place_or_zero o) n (local w.shared t vs bs)) h.0.place ∙ ap (λ (l : List ℕ). record { tape = t; values = l; adjoints = drop w.shared bs }) (set_own w.shared q n vs h.0.own) in
+    ap (λ (o : Option ℕ). with_value w (place_or_zero o) n (local w.shared t vs bs)) h.0.place ∙ ap (λ (l : List ℕ). record { tape = t; values = l; adjoints = drop w.shared bs }) (set_own w.shared q n vs h.0.own) in
     record {
       size = ap length first-cells ∙ (k.size ∙ length-set s q (Some (Index x.1)));
       same = λ p e. ap (λ (c : Cells). content c p) first-cells
-        ∙ (k.same p (or_right (bytes_eq (name_at w.site.keys p) x.0) (has_name (name_at w.site.keys p) (set_names xs)) e)
-        ∙ content_set_other s q p (Some (Index x.1)) (λ f. different (name_at w.site.keys p) x.0 (or_left (bytes_eq (name_at w.site.keys p) x.0) (has_name (name_at w.site.keys p) (set_names xs)) e) (ap (name_at w.site.keys) f ∙ st.named)));
+          ∙ (k.same p (or_right (bytes_eq (name_at w.site.keys p) x.0) (has_name (name_at w.site.keys p) (set_names xs)) e)
+          ∙ content_set_other s q p (Some (Index x.1)) (λ f. different (name_at w.site.keys p) x.0 (or_left (bytes_eq (name_at w.site.keys p) x.0) (has_name (name_at w.site.keys p) (set_names xs)) e) (ap (name_at w.site.keys) f ∙ st.named)));
       vs1 = k.vs1;
       out = ap (set_words w xs) first ∙ k.out;
       cells = k.cells ∙ sym (cells_kept w.shared q n vs h.0.own);
       long = k.long ∙ length-set vs q n;
       other = λ p e. k.other p (or_right (bytes_eq (name_at w.site.keys p) x.0) (has_name (name_at w.site.keys p) (set_names xs)) e)
-        ∙ get_or-set_other vs q p n 0 (λ f. different (name_at w.site.keys p) x.0 (or_left (bytes_eq (name_at w.site.keys p) x.0) (has_name (name_at w.site.keys p) (set_names xs)) e) (ap (name_at w.site.keys) f ∙ st.named));
+          ∙ get_or-set_other vs q p n 0 (λ f. different (name_at w.site.keys p) x.0 (or_left (bytes_eq (name_at w.site.keys p) x.0) (has_name (name_at w.site.keys p) (set_names xs)) e) (ap (name_at w.site.keys) f ∙ st.named));
       here = λ p i j e. subst (λ (c : Cells). IsSet (content c p) (slice_index k.vs1 p)) (sym first-cells) (here_by p i j e (has_name (name_at w.site.keys p) (set_names xs)) refl k.vs1 k.same k.other k.here);
     }
   where

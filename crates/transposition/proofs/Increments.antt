@@ -1,28 +1,26 @@
 -- An increment is undone, and the pairing kept.
-use Rattle.std.proofs.Common.{◌≡◌, ◌≢◌, ℕ, zero, suc, ◌+◌, ◌-◌, ◌*◌, ◌<◌, ◌≤◌, ◌==◌, ◌^◌, ◌%◌, List, [], ◌∷◌, ◌++◌, refl, ap, sym, ◌∙◌, subst, arith, length, map, take, drop, append_assoc, Bool, true, false, not, ◌&&◌, ◌||◌, cond, Option, Some, None, Result, Ok, Err, inl, inr, ⊎_elim, ℤ}
-use Rattle.std.specs.Prelude.{◌⊎◌, slice_index, slice_set, nat_lt, bytes_eq, if◌then◌else◌}
-use Rattle.std.proofs.lemmas.Bool.{and_parts, and_from, eqb-true, eq-eqb}
-use Rattle.std.proofs.lemmas.Slice.Eq.{bytes_eq-Decides}
-use Rattle.std.proofs.lemmas.List.{length-set, length-map, get_or-set_same, get_or-set_other}
+use Rattle.std.proofs.Common.{◌≡◌, ◌≢◌, ℕ, zero, suc, ◌+◌, ◌*◌, ◌<◌, ◌==◌, ◌^◌, ◌%◌, List, [], ◌∷◌, refl, ap, sym, ◌∙◌, subst, arith, length, map, Bool, true, false, not, ◌||◌, cond, Option, Some, None, Ok, inl, inr}
+use Rattle.std.specs.Prelude.{◌⊎◌, slice_index, slice_set, nat_lt, if◌then◌else◌}
+use Rattle.std.proofs.lemmas.Bool.{and_parts, eqb-true, eq-eqb}
+use Rattle.std.proofs.lemmas.List.{length-set, get_or-set_same, get_or-set_other}
 use Rattle.pairing.specs.Ring.{big, last, Same, factor}
-use Rattle.pairing.specs.Pair.{pair, live}
+use Rattle.pairing.specs.Pair.{pair}
 use Rattle.pairing.proofs.Sames.{of_equal, same_sum, same_product, strip_add, strip_sub, put_add, sign_off}
 use Rattle.pairing.proofs.Pairs.{live_at}
 use Rattle.fl_ast.specs.declared.kind.Kind.{Kind}
 use Rattle.fl_ast.specs.declared.kind.Kind.TheVariants as kind
-use Rattle.fl_ast.specs.Tree.{Expression, literal, get, minus, binary, power, call, Expressions, no_expressions, expression, Designator}
-use Rattle.fl_ast.specs.Occurs.{occurs, occurs_in_any}
+use Rattle.fl_ast.specs.Tree.{Designator}
+use Rattle.fl_ast.specs.Occurs.{occurs}
 use Rattle.fl_types.specs.declared.access.AccessKind.{AccessKind}
-use Rattle.fl_types.specs.declared.access.AccessKind.TheVariants.{Read, Write, Update}
-use Rattle.operations.specs.declared.op.Op.{Op}
+use Rattle.fl_types.specs.declared.access.AccessKind.TheVariants.{Write, Update}
 use Rattle.operations.specs.declared.op.Op.TheVariants.{Load, Bump, Add}
-use Rattle.operations.specs.Tree.{Tree, done, and_then, Played, play}
+use Rattle.operations.specs.Tree.{done, and_then, Played, play}
 use Rattle.operations.proofs.Trees.{bind}
 use Rattle.meaning.specs.declared.value.Value.{Value}
 use Rattle.meaning.specs.declared.value.Value.TheVariants.{Index, Ring}
 use Rattle.meaning.specs.declared.value.Cause.{Cause}
 use Rattle.meaning.specs.Values.{as_dual, dual_add, dual_sub, whole_numbers}
-use Rattle.meaning.specs.Logs.{Log, silence, single, both, within, right_side, touched, pushes, Traced, pure, lift, after, inside, ◌>>=◌}
+use Rattle.meaning.specs.Logs.{Log, silence, both, within, right_side, touched, Traced, pure, after, inside, ◌>>=◌}
 use Rattle.meaning.specs.Sites.{Key, Cells, Site, place_of, kind_of, word_of}
 use Rattle.meaning.specs.Expressions.{content, value_of, values_of}
 use Rattle.meaning.specs.Statements.{store_at, terms_of, incremented_dual, increment_cell, increment_place, increment}
@@ -31,24 +29,22 @@ use Rattle.fl_types.specs.Increment.{Signed, are_free_of}
 use Rattle.meaning.specs.declared.value.Dual.{Dual}
 use Rattle.ring_core.specs.Ring.{ring_add, ring_sub}
 use Rattle.meaning.specs.Adjoints.{tangent_of}
-use Rattle.transposition.specs.Tapes.{Tape, word, tape_after, top, rest}
+use Rattle.transposition.specs.Tapes.{Tape, tape_after}
 use Rattle.transposition.specs.Worlds.{World, Local, increment_value, name_at}
 use Rattle.transposition.specs.Reads.{place_tree}
-use Rattle.transposition.specs.Spread.{occurrences, spread, with_sign}
-use Rattle.transposition.specs.Back.{after_pop, adjoint_tree, rest_tree, undo_increment, rest_occurrences, increment_back}
-use Rattle.transposition.specs.Law.{Use, flat, local, Like, HasKind, Fit, tangents, HasTouch, HasDifferentiatedRead, Within, Cover, CoverAll, Ends, Undoes}
-use Rattle.transposition.specs.Needs.{Needs, NeedsAll, NeedsEach, Quiet}
-use Rattle.transposition.specs.Sound.{SoundTarget, SoundIncrement, NeedsTerms, QuietTerms, KindedTerms}
-use Rattle.transposition.proofs.Split.{before, played, reading, making, grow_value_played}
+use Rattle.transposition.specs.Spread.{spread}
+use Rattle.transposition.specs.Back.{adjoint_tree, rest_tree, undo_increment, rest_occurrences, increment_back}
+use Rattle.transposition.specs.Law.{Use, flat, local, Like, HasKind, Fit, tangents, HasTouch, Within, CoverAll, Ends, Undoes}
+use Rattle.transposition.specs.Sound.{SoundIncrement, NeedsTerms, QuietTerms, KindedTerms}
+use Rattle.transposition.proofs.Split.{grow_value_played}
 use Rattle.transposition.proofs.Keys.{Stands, stands}
 use Rattle.transposition.proofs.Places.{content_set_same, content_set_other, tangent_here}
-use Rattle.transposition.proofs.Tangents.{worth, moves, signed_is}
-use Rattle.transposition.proofs.Reading.{TouchesIn, Scene, room, gets_ok, got_told, value_got, Got, got_then, got_done, got_bind, place_got, Placed, cover_both, cover_value, cover_adjoint}
-use Rattle.transposition.proofs.Bounds.{Bound, bound, Inside, inside_left, inside_right}
-use Rattle.transposition.proofs.Spreading.{silent, Spreads, spreads, tangents_long}
+use Rattle.transposition.proofs.Tangents.{moves, signed_is}
+use Rattle.transposition.proofs.Reading.{TouchesIn, Scene, room, gets_ok, got_told, value_got, Got, got_then, got_done, got_bind, place_got, Placed, cover_both, cover_value}
+use Rattle.transposition.proofs.Bounds.{bound, Inside, inside_left, inside_right}
+use Rattle.transposition.proofs.Spreading.{silent, spreads, tangents_long}
 use Rattle.transposition.proofs.Calculus.{Sums, sums_same, sums_both, expression_sums}
 use Rattle.transposition.proofs.Taping.{wordless_terms, wordless_all}
-
 use Rattle.transposition.specs.Reads.{value_tree}
 use Rattle.transposition.proofs.Flats.{flat_value}
 use Rattle.transposition.proofs.Plain.{without, needs_without, needs_all_without, scene_without, like_other, adjoint_got, tangents_on, tangents_off, differentiated_if}
@@ -113,21 +109,21 @@ terms_sums w u s ts fit a (r ∷ rs) ds o ins kd q =
 
 pub grown_tangent : (ds : List (Bool × Dual)) (d : Dual) → Same (incremented_dual ds d).tangent (d.tangent + drift ds)
 grown_tangent [] d = of_equal d.tangent (d.tangent + 0) (omega arith)
-grown_tangent ((true , m) ∷ ds) d =
+grown_tangent ((true, m) ∷ ds) d =
     grown_tangent ds (dual_sub d m) ∙ (same_sum (ring_sub d.tangent m.tangent) (d.tangent + last * m.tangent) (drift ds) (drift ds) (strip_sub d.tangent m.tangent) refl
     ∙ of_equal (d.tangent + last * m.tangent + drift ds) (d.tangent + (last * m.tangent + drift ds)) (omega arith))
-grown_tangent ((false , m) ∷ ds) d =
+grown_tangent ((false, m) ∷ ds) d =
     grown_tangent ds (dual_add d m) ∙ (same_sum (ring_add d.tangent m.tangent) (d.tangent + m.tangent) (drift ds) (drift ds) (strip_add d.tangent m.tangent) refl
     ∙ of_equal (d.tangent + m.tangent + drift ds) (d.tangent + (1 * m.tangent + drift ds)) (omega arith))
 
 taken_off : (ds : List (Bool × Dual)) (d : Dual) (a : ℕ) → Same ((incremented_dual ds d).value + amount ds a) (d.value + a)
 taken_off [] d a = refl
-taken_off ((true , m) ∷ ds) d a =
+taken_off ((true, m) ∷ ds) d a =
     taken_off ds (dual_sub d m) (ring_add a m.value)
     ∙ (same_sum (ring_sub d.value m.value) (d.value + last * m.value) (ring_add a m.value) (a + m.value) (strip_sub d.value m.value) (strip_add a m.value)
     ∙ (of_equal (d.value + last * m.value + (a + m.value)) (d.value + a + (m.value + last * m.value)) (omega arith)
     ∙ (same_sum (d.value + a) (d.value + a) (m.value + last * m.value) 0 refl (sign_off m.value) ∙ of_equal (d.value + a + 0) (d.value + a) (omega arith))))
-taken_off ((false , m) ∷ ds) d a =
+taken_off ((false, m) ∷ ds) d a =
     taken_off ds (dual_add d m) (ring_sub a m.value)
     ∙ (same_sum (ring_add d.value m.value) (d.value + m.value) (ring_sub a m.value) (a + last * m.value) (strip_add d.value m.value) (strip_sub a m.value)
     ∙ (of_equal (d.value + m.value + (a + last * m.value)) (d.value + a + (m.value + last * m.value)) (omega arith)
@@ -341,13 +337,13 @@ ungrown_ran w u s vs bs t ts atomic p rs s2 fit sound k told subs covered l wide
           cover = cover_both w ts _ _ (terms.cover (silent ts)) (cover_both w ts _ _ (place.cover (silent ts)) last_ops);
         })))
     by_push false e = record {
-        vs1 = vs;
-        out = refl;
-        cells = refl;
-        like = like_other u w.site.keys vs s k.q x (ap u.needed st.named ∙ off (u.needed p.name) refl) l;
-        wide = wide;
-        cover = tt;
-      }
+      vs1 = vs;
+      out = refl;
+      cells = refl;
+      like = like_other u w.site.keys vs s k.q x (ap u.needed st.named ∙ off (u.needed p.name) refl) l;
+      wide = wide;
+      cover = tt;
+    }
       where
         off : (b : Bool) → u.needed p.name ≡ b → u.needed p.name ≡ false
         off true f = absurd (let g : true ≡ false = sym (sound.target.pushed f) ∙ e in cc)
@@ -411,11 +407,11 @@ increment_undone w u ts atomic p rs sound s t fit ins s2 h vs bs l wide long = r
         let own : Local = local w.shared t un.vs1 bs in
         let right : Inside w ts (terms_of rs w.site s).log = record { told = terms_told; reads = λ q i. all.differentiated q (inl (differentiated_if w p.name q (terms_of rs w.site s).log on i)) } in
         let one : Got w ts (flat w.shared un.vs1 bs) (play (adjoint_tree w p own) (flat w.shared un.vs1 bs)) a silence =
-            adjoint_got w u s un.vs1 bs t ts sc p k.q (sound.target.subscripts on) at (λ i. either_touched (atomic || w.site.pluses p.name) k.q ts (covered i)) in
+        adjoint_got w u s un.vs1 bs t ts sc p k.q (sound.target.subscripts on) at (λ i. either_touched (atomic || w.site.pluses p.name) k.q ts (covered i)) in
         let su = terms_sums w u s ts fit a rs k.ds k.out right (sound.kinds on) (sound.quiet on) in
         let sp = spreads w u s un.vs1 bs t ts a sc (rest_occurrences w.active rs) su.z (sound.amounts on) su.sum in
         let here : slice_index ds k.q ≡ (as_dual k.v).tangent =
-            live_at (λ p. u.live (name_at w.site.keys p)) 0 k.q (map tangent_of s) (ap (λ (p : ℕ). u.live (name_at w.site.keys p)) (omega arith) ∙ (live_is ∙ on)) ∙ (tangent_here s k.q ∙ (ap tangent_of k.held ∙ tangent_held k.v)) in
+        live_at (λ p. u.live (name_at w.site.keys p)) 0 k.q (map tangent_of s) (ap (λ (p : ℕ). u.live (name_at w.site.keys p)) (omega arith) ∙ (live_is ∙ on)) ∙ (tangent_here s k.q ∙ (ap tangent_of k.held ∙ tangent_held k.v)) in
         let after-store : tangents u w.site.keys s2 ≡ slice_set ds k.q (incremented_dual k.ds (as_dual k.v)).tangent = ap (tangents u w.site.keys) k.cells ∙ tangents_on w u s k.q x (live_is ∙ on) in
         let moved-by : Same (incremented_dual k.ds (as_dual k.v)).tangent (slice_index ds k.q + drift k.ds) = grown_tangent k.ds (as_dual k.v) ∙ of_equal _ _ (ap (λ (z : ℕ). z + drift k.ds) (sym here)) in
         rw (bind (undo_increment w atomic p rs m) (λ y. and_then (adjoint_tree w p y) (λ a. spread w a (rest_occurrences w.active rs) y)) c)

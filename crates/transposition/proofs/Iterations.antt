@@ -1,41 +1,35 @@
 -- An iteration of a parallel loop is undone by itself, from its tape.
-use Rattle.std.proofs.Common.{◌≡◌, ◌≢◌, ℕ, zero, suc, ◌+◌, ◌-◌, ◌*◌, ◌<◌, ◌≤◌, ◌==◌, List, [], ◌∷◌, ◌++◌, refl, ap, sym, ◌∙◌, subst, arith, length, take, drop, map, Bool, true, false, not, ◌&&◌, ◌||◌, cond, Option, Some, None, Result, Ok, Err, ℤ, pos, inl, inr}
-use Rattle.std.specs.Prelude.{slice_index, slice_set, bytes_eq, nat_lt, ◌+ℤ◌, ◌*ℤ◌}
-use Rattle.std.specs.Int.{w64, cast_unsigned}
-use Rattle.std.proofs.lemmas.Bool.{eqb-true, eq-eqb}
+use Rattle.std.proofs.Common.{◌≡◌, ℕ, ◌-◌, ◌*◌, ◌<◌, ◌≤◌, List, [], ◌∷◌, ◌++◌, refl, ap, sym, ◌∙◌, subst, arith, length, take, drop, map, Bool, true, false, ◌||◌, cond, Option, Some, None, Ok, inl, inr}
+use Rattle.std.specs.Prelude.{slice_index, bytes_eq, nat_lt}
 use Rattle.std.proofs.lemmas.Slice.Eq.{bytes_eq-Decides}
-use Rattle.std.proofs.lemmas.List.{length-set, length-map, length-append, length-drop, length-take-le, take_at, drop_at, get_or-set_same, get_or-set_other, get_or_append_left, get_or-append_right, get_or-take, get_or-drop}
-use Rattle.ring_core.specs.Index.{IsIndex}
+use Rattle.std.proofs.lemmas.List.{length-map, length-append, length-drop, length-take-le, take_at, drop_at, get_or_append_left, get_or-append_right, get_or-take, get_or-drop}
 use Rattle.pairing.specs.Ring.{Same}
 use Rattle.pairing.specs.Pair.{pair}
 use Rattle.pairing.proofs.Sames.{of_equal}
 use Rattle.fl_ast.specs.declared.directive.Directive.{Directive}
 use Rattle.fl_ast.specs.Tree.{Statements}
-use Rattle.fl_types.specs.Sharing.{has_name, assigns_in}
+use Rattle.fl_types.specs.Sharing.{has_name}
 use Rattle.operations.specs.Tree.{Tree, Played, play}
 use Rattle.meaning.specs.declared.value.Value.{Value}
-use Rattle.meaning.specs.declared.value.Value.TheVariants.{Index, Ring}
+use Rattle.meaning.specs.declared.value.Value.TheVariants.{Index}
 use Rattle.meaning.specs.declared.value.TrapAt.{TrapAt}
-use Rattle.meaning.specs.declared.value.IterationCount.{IterationCount}
-use Rattle.meaning.specs.Logs.{Log, both, within, sets, iteration, Traced, after, ◌>>=◌}
-use Rattle.meaning.specs.Sites.{Key, Cells, Site, place_of, kind_of, word_of, in_iteration as site_in_iteration}
+use Rattle.meaning.specs.Logs.{Log, both, Traced, after}
+use Rattle.meaning.specs.Sites.{Cells, Site, place_of, kind_of, word_of, in_iteration as site_in_iteration}
 use Rattle.meaning.specs.Expressions.{content}
 use Rattle.meaning.specs.Statements.{Run, with_log, set_log_at, with_all_unset, unset_log, private_words, with_variables, Heads, one_iteration, run_all}
 use Rattle.fl_types.specs.Nests.{iteration_body}
 use Rattle.transposition.specs.Calms.{inner_of}
 use Rattle.transposition.proofs.Heads.{Settings, settings, set_names, AllIndex, set_cells, set_words, words_set, SettingRun, setting_run, IsSet, VariablesSet, variables_set, set_fit}
 use Rattle.meaning.specs.Adjoints.{tangent_of}
-use Rattle.transposition.specs.Tapes.{Tape, Tapes, word, empty, tape_after, tape_at}
-use Rattle.transposition.specs.Worlds.{World, Local, name_at, with_value, in_iteration}
-use Rattle.transposition.specs.Reads.{place_or_zero}
-use Rattle.transposition.specs.Back.{loop_variables, with_variable_words, pop_privates, clear_privates, with_collections, iteration_local, iteration_tree, back_all}
+use Rattle.transposition.specs.Tapes.{Tape, Tapes, empty, tape_after, tape_at}
+use Rattle.transposition.specs.Worlds.{World, Local, name_at, in_iteration}
+use Rattle.transposition.specs.Back.{loop_variables, with_variable_words, pop_privates, clear_privates, iteration_local, iteration_tree, back_all}
 use Rattle.transposition.specs.Law.{Use, local, flat, Like, tangents, Fit, HasKind, Within, CoverAll, Ends, Undoes}
-use Rattle.transposition.specs.Sound.{Own, AllOwn, privates_of, SoundRounds, writes_in}
-use Rattle.transposition.proofs.Split.{less, not_less, is_less, set_own, cells_kept}
-use Rattle.transposition.proofs.Keys.{Stands, stands}
-use Rattle.transposition.proofs.Places.{content_set_same, content_set_other, content_past}
+use Rattle.transposition.specs.Sound.{AllOwn, privates_of, SoundRounds, writes_in}
+use Rattle.transposition.proofs.Split.{less, not_less}
+use Rattle.transposition.proofs.Places.{content_past}
 use Rattle.transposition.proofs.Bounds.{Bound, bound}
-use Rattle.transposition.proofs.Kept.{Keeps, fit_set}
+use Rattle.transposition.proofs.Kept.{Keeps}
 use Rattle.transposition.proofs.Runs.{noted_out}
 use Rattle.transposition.proofs.Rounds.{Round, Step}
 use Rattle.transposition.proofs.Spreading.{tangents_long}
@@ -68,13 +62,13 @@ unset_wordless site (x ∷ xs) t = ap (tape_after (unset_log site xs)) (at_wordl
 
 pub iter_run : (w : World) (directive : Directive) (var : List ℕ) (tree : Statements) (heads : Heads) (k : ℕ) (s s2 : Cells) → (iteration_run w directive var tree heads k s).out ≡ Ok s2 → IterRun w directive var tree heads k s s2
 iter_run w directive var tree heads k s s2 h = record {
-    body = sym sr.out ∙ (b.first ∙ ap (λ (c : Cells). Ok c) e);
-    tape = λ t. ap (λ (l : Log). tape_after l t) log-is
+  body = sym sr.out ∙ (b.first ∙ ap (λ (c : Cells). Ok c) e);
+  tape = λ t. ap (λ (l : Log). tape_after l t) log-is
       ∙ (ap (λ (x : Tape). tape_after (private_words w.site tree names b.a) (tape_after varied.log x)) (unset_wordless w.site names t)
       ∙ (ap (tape_after (private_words w.site tree names b.a)) (sr.tape t) ∙ ap (λ (c : Cells). tape_after (private_words w.site tree names c) (tape_after (body_run_at w directive var tree heads k s).log t)) e));
-    within = subst (λ (l : Log). Within w.active (body_run_at w directive var tree heads k s).log l) (sym log-is)
+  within = subst (λ (l : Log). Within w.active (body_run_at w directive var tree heads k s).log l) (sym log-is)
       (record { touches = λ a p i. inl (inr (sr.within.touches a p i)); differentiated = λ p i. inl (inr (sr.within.differentiated p i)) });
-  }
+}
   where
     names : List (List ℕ)
     names = privates_of w directive var tree
@@ -144,11 +138,11 @@ begun_fit w u inner number directive var tree sound xs varies ix s fit =
     let names = privates_of w directive var tree in
     let s0 = with_all_unset w.site names s in
     let fit0 : Fit w u s0 = record {
-        long = unset_long w names s sound.privates ∙ fit.long;
-        room = fit.room;
-        kinds = λ p y e. kinds_by p y e (has_name (name_at w.site.keys p) names) refl;
-        still = λ p e. still_by p e (has_name (name_at w.site.keys p) names) refl;
-      } in
+      long = unset_long w names s sound.privates ∙ fit.long;
+      room = fit.room;
+      kinds = λ p y e. kinds_by p y e (has_name (name_at w.site.keys p) names) refl;
+      still = λ p e. still_by p e (has_name (name_at w.site.keys p) names) refl;
+    } in
     let fit1 = set_fit w u xs s0 fit0 (own_variables w u inner number directive var tree sound xs varies) (λ x f. sound.whole x (sym (ap (has_name x) varies) ∙ f)) ix in
     record { long = fit1.long; room = fit1.room; kinds = fit1.kinds; still = λ p e. fit1.still p (sym (sound.moved (name_at w.site.keys p)) ∙ e) }
   where

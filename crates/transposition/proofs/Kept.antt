@@ -1,44 +1,38 @@
 -- What a run keeps: cells of their kinds, and the places of names that it doesn't set.
-use Rattle.std.proofs.Common.{◌≡◌, ◌≢◌, ℕ, zero, suc, ◌+◌, ◌*◌, ◌%◌, ◌<◌, ◌^◌, ◌==◌, List, [], ◌∷◌, ◌++◌, refl, ap, sym, ◌∙◌, subst, arith, length, Bool, true, false, not, ◌||◌, Option, Some, None, Result, Ok, Err, ℤ, pos, negsuc}
-use Rattle.std.specs.Prelude.{slice_set, bytes_eq, if◌then◌else◌, ◌+ℤ◌, ◌*ℤ◌}
+use Rattle.std.proofs.Common.{◌≡◌, ◌≢◌, ℕ, ◌+◌, ◌*◌, ◌<◌, ◌^◌, ◌==◌, List, [], ◌∷◌, refl, ap, sym, ◌∙◌, subst, arith, length, Bool, true, false, ◌||◌, Option, Some, None, Ok, ℤ, pos, negsuc}
+use Rattle.std.specs.Prelude.{slice_set, bytes_eq, if◌then◌else◌}
 use Rattle.std.specs.Int.{w64, cast_unsigned}
 use Rattle.std.proofs.lemmas.Bool.{eqb-true, eq-eqb}
 use Rattle.std.proofs.lemmas.Slice.Eq.{bytes_eq-Decides}
 use Rattle.std.proofs.lemmas.List.{length-set}
 use Rattle.std.proofs.lemmas.Bool.Decides.{nat_tests}
-use Rattle.ring_core.specs.Index.{IsIndex, fits_index}
-use Rattle.pairing.specs.Ring.{big, last, Same, factor}
+use Rattle.ring_core.specs.Index.{IsIndex}
+use Rattle.pairing.specs.Ring.{Same, factor}
 use Rattle.pairing.proofs.Sames.{of_equal, same_sum, same_product}
 use Rattle.fl_ast.specs.declared.kind.Kind.{Kind}
 use Rattle.fl_ast.specs.declared.kind.Kind.TheVariants as kind
-use Rattle.fl_ast.specs.declared.directive.Directive.{Directive}
-use Rattle.fl_ast.specs.Tree.{Expression, Designator, Statement, assignment, branch, loop, Statements, no_statements, statement, Arms, no_arms, arm, Condition}
+use Rattle.fl_ast.specs.Tree.{Expression, Designator}
 use Rattle.fl_types.specs.declared.access.AccessKind.{AccessKind}
-use Rattle.fl_types.specs.Increment.{Signed, increment_terms}
+use Rattle.fl_types.specs.Increment.{Signed}
 use Rattle.fl_types.specs.Accesses.{increment_kind}
 use Rattle.meaning.specs.declared.value.Dual.{Dual}
 use Rattle.meaning.specs.declared.value.Value.{Value}
 use Rattle.meaning.specs.declared.value.Value.TheVariants.{Index, Ring}
-use Rattle.meaning.specs.declared.value.Cause.{Cause}
-use Rattle.meaning.specs.declared.value.TrapAt.{TrapAt}
-use Rattle.meaning.specs.declared.value.IterationCount.{IterationCount}
 use Rattle.meaning.specs.Values.{as_dual, dual_add, dual_sub, as_kind, whole_numbers}
-use Rattle.meaning.specs.Logs.{Log, Traced, pure, lift, after, inside, at_line, at_line_by, instance, turn, condition, taken, ◌>>=◌}
-use Rattle.meaning.specs.Sites.{Key, Cells, Site, place_of, kind_of}
-use Rattle.meaning.specs.Expressions.{content, value_of}
-use Rattle.meaning.specs.Statements.{Run, plain_assignment, terms_of, incremented_dual, increment, assignment_by}
+use Rattle.meaning.specs.Sites.{Cells, Site, kind_of}
+use Rattle.meaning.specs.Expressions.{content}
+use Rattle.meaning.specs.Statements.{plain_assignment, terms_of, incremented_dual, increment, assignment_by}
 use Rattle.meaning.specs.Adjoints.{tangent_of}
 use Rattle.transposition.specs.Worlds.{World, name_at}
 use Rattle.transposition.specs.Law.{Use, Fit, HasKind}
-use Rattle.transposition.specs.Sound.{SoundStore, SoundAssigned, Unmoved, UnmovedTerms}
-use Rattle.transposition.proofs.Keys.{Stands, stands}
+use Rattle.transposition.specs.Sound.{SoundStore, SoundAssigned, UnmovedTerms}
+use Rattle.transposition.proofs.Keys.{stands}
 use Rattle.transposition.proofs.Places.{content_set_same, content_set_other}
-use Rattle.transposition.proofs.Tangents.{moves, moves_is}
-use Rattle.transposition.proofs.Bounds.{bound}
+use Rattle.transposition.proofs.Tangents.{moves}
 use Rattle.transposition.proofs.Sizes.{below, Sized, value_sized, IsWhole, value_whole}
 use Rattle.transposition.proofs.Stills.{value_still}
-use Rattle.transposition.proofs.Plain.{PlainRun, plain_run}
-use Rattle.transposition.proofs.Increments.{IncrementRun, increment_run, TermsRun, terms_run, drift, grown_tangent, ring_held, tangent_held}
+use Rattle.transposition.proofs.Plain.{plain_run}
+use Rattle.transposition.proofs.Increments.{increment_run, terms_run, drift, grown_tangent, ring_held, tangent_held}
 
 pub record Keeps (w : World) (u : Use) (test : List ℕ → Bool) (s s2 : Cells) : Type 0 where
   pub fit : Fit w u s2
@@ -57,9 +51,9 @@ or_right false b h = h
 
 pub keeps_both : (w : World) (u : Use) (one more : List ℕ → Bool) (s s1 s2 : Cells) → Keeps w u one s s1 → Keeps w u more s1 s2 → Keeps w u (λ x. one x || more x) s s2
 keeps_both w u one more s s1 s2 h k = record {
-    fit = k.fit;
-    same = λ p e. k.same p (or_right (one (name_at w.site.keys p)) (more (name_at w.site.keys p)) e) ∙ h.same p (or_left (one (name_at w.site.keys p)) (more (name_at w.site.keys p)) e);
-  }
+  fit = k.fit;
+  same = λ p e. k.same p (or_right (one (name_at w.site.keys p)) (more (name_at w.site.keys p)) e) ∙ h.same p (or_left (one (name_at w.site.keys p)) (more (name_at w.site.keys p)) e);
+}
 
 -- the same with more names
 pub keeps_wider : (w : World) (u : Use) (one more : List ℕ → Bool) (s s2 : Cells) → ((x : List ℕ) → more x ≡ false → one x ≡ false) → Keeps w u one s s2 → Keeps w u more s s2
@@ -68,11 +62,11 @@ keeps_wider w u one more s s2 h k = record { fit = k.fit; same = λ p e. k.same 
 -- a place set
 pub fit_set : (w : World) (u : Use) (s : Cells) (x : List ℕ) (q : ℕ) (v : Value) → Fit w u s → name_at w.site.keys q ≡ x → q < length w.site.keys → HasKind (kind_of w.site x) v → (u.moved x ≡ false → Same (tangent_of (Some v)) 0) → Fit w u (slice_set s q (Some v))
 fit_set w u s x q v h named there kinds still = record {
-    long = length-set s q (Some v) ∙ h.long;
-    room = h.room;
-    kinds = λ p y e. kinds_by p y e (p == q) refl;
-    still = λ p e. still_by p e (p == q) refl;
-  }
+  long = length-set s q (Some v) ∙ h.long;
+  room = h.room;
+  kinds = λ p y e. kinds_by p y e (p == q) refl;
+  still = λ p e. still_by p e (p == q) refl;
+}
   where
     apart : (p : ℕ) → (p == q) ≡ false → p ≢ q
     apart p e g = let k : true ≡ false = sym (eq-eqb p q g) ∙ e in cc
@@ -97,9 +91,9 @@ fit_set w u s x q v h named there kinds still = record {
 pub keeps_set : (w : World) (u : Use) (s : Cells) (x : List ℕ) (q : ℕ) (v : Value) → Fit w u s → name_at w.site.keys q ≡ x → q < length w.site.keys → HasKind (kind_of w.site x) v → (u.moved x ≡ false → Same (tangent_of (Some v)) 0)
     → Keeps w u (λ y. bytes_eq y x) s (slice_set s q (Some v))
 keeps_set w u s x q v h named there kinds still = record {
-    fit = fit_set w u s x q v h named there kinds still;
-    same = λ p e. content_set_other s q p (Some v) (λ g. (let k : true ≡ false = sym ((bytes_eq-Decides (name_at w.site.keys p) x).1 (ap (name_at w.site.keys) g ∙ named)) ∙ e in cc));
-  }
+  fit = fit_set w u s x q v h named there kinds still;
+  same = λ p e. content_set_other s q p (Some v) (λ g. (let k : true ≡ false = sym ((bytes_eq-Decides (name_at w.site.keys p) x).1 (ap (name_at w.site.keys) g ∙ named)) ∙ e in cc));
+}
 
 -- ---- assignments
 
@@ -141,8 +135,8 @@ terms_still w u s fit (r ∷ rs) q ds h =
 
 grown_small : (ds : List (Bool × Dual)) (d : Dual) → d.value < 2 ^ 64 → (incremented_dual ds d).value < 2 ^ 64
 grown_small [] d h = h
-grown_small ((true , m) ∷ ds) d h = grown_small ds (dual_sub d m) (below (d.value + 18446744073709551615 * m.value))
-grown_small ((false , m) ∷ ds) d h = grown_small ds (dual_add d m) (below (d.value + m.value))
+grown_small ((true, m) ∷ ds) d h = grown_small ds (dual_sub d m) (below (d.value + 18446744073709551615 * m.value))
+grown_small ((false, m) ∷ ds) d h = grown_small ds (dual_add d m) (below (d.value + m.value))
 
 ring_kind : (k : Kind) (v : Value) → k ≡ kind.Ring → (d : Dual) → d.value < 2 ^ 64 → HasKind k (Ring d)
 ring_kind kind.Ring v e d h = h

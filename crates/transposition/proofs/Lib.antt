@@ -26,3 +26,4 @@ pub mod Nesting
 pub mod Iterations
 pub mod Parallel
 pub mod Whole
+pub mod Transposed

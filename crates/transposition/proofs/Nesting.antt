@@ -1,17 +1,12 @@
 -- The body of an iteration: all statements of a loop's body, or of the one loop in it.
-use Rattle.std.specs.Prelude.{◌≡◌, ℕ, Bool, true, false, ◌||◌, cond, if◌then◌else◌, bytes_eq, List, [], ◌∷◌, Option, Some, None, refl}
-use Rattle.fl_ast.specs.declared.directive.Directive.{Directive}
-use Rattle.fl_ast.specs.Tree.{Statement, assignment, branch, loop, Statements, no_statements, statement}
-use Rattle.fl_types.specs.Nests.{Head, inner_head, statements_in, inner_body}
+use Rattle.std.specs.Prelude.{◌≡◌, ℕ, Bool, true, false, ◌||◌, if◌then◌else◌, bytes_eq, List, Option, Some, None, refl}
+use Rattle.fl_ast.specs.Tree.{assignment, branch, loop, Statements, no_statements, statement}
+use Rattle.fl_types.specs.Nests.{Head, inner_head, inner_body}
 use Rattle.fl_types.specs.Sharing.{has_name}
-use Rattle.meaning.specs.Sites.{Site}
-use Rattle.meaning.specs.Statements.{Run, run_all, run_inner}
-use Rattle.operations.specs.Tree.{Tree}
-use Rattle.transposition.specs.Worlds.{World, Local}
+use Rattle.meaning.specs.Statements.{run_all, run_inner}
 use Rattle.transposition.specs.Back.{back_all, back_inner, variables_of}
-use Rattle.transposition.specs.Law.{Use}
 use Rattle.transposition.specs.Calms.{AreFlat}
-use Rattle.transposition.specs.Sound.{writes, writes_in, SoundAll, SoundInner}
+use Rattle.transposition.specs.Sound.{writes_in}
 
 inner_run : (tree : Statements) → run_inner tree ≡ run_all (inner_body tree)
 inner_run no_statements = refl

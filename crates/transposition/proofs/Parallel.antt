@@ -1,10 +1,6 @@
 -- A parallel loop is undone by its iterations in ascending order, and they are disciplined.
-use Rattle.std.proofs.Common.{◌≡◌, ◌≢◌, ℕ, zero, suc, ◌+◌, ◌-◌, ◌<◌, ◌≤◌, ◌==◌, List, [], ◌∷◌, ◌++◌, refl, ap, sym, ◌∙◌, subst, arith, length, take, drop, Bool, true, false, Option, Some, None, Result, Ok, Err, ℤ, pos, append-nil}
-use Rattle.std.specs.Prelude.{slice_index, nat_lt, int_div, ◌+ℤ◌, ◌-ℤ◌, ◌*ℤ◌}
-use Rattle.std.specs.Int.{w64, cast_unsigned}
+use Rattle.std.proofs.Common.{◌≡◌, ◌≢◌, ℕ, zero, suc, ◌+◌, ◌<◌, ◌≤◌, ◌==◌, List, [], ◌∷◌, refl, ap, sym, ◌∙◌, subst, arith, length, Bool, true, false, Ok}
 use Rattle.std.proofs.lemmas.Bool.{eqb-true, eq-eqb}
-use Rattle.ring_core.specs.Index.{IsIndex}
-use Rattle.store_core.specs.Bounds.{clipped}
 use Rattle.pairing.specs.Ring.{Same}
 use Rattle.pairing.specs.Pair.{pair}
 use Rattle.fl_ast.specs.declared.directive.Directive.{Directive}
@@ -13,24 +9,20 @@ use Rattle.operations.specs.declared.op.Op.{Op}
 use Rattle.operations.specs.Tree.{Tree, done, and_then, Played, play}
 use Rattle.operations.specs.Order.{in_order, IsDisciplined, ops_alone, rounds}
 use Rattle.operations.proofs.Trees.{bind}
-use Rattle.operations.proofs.Orders.{Rounds, rounds_alone}
-use Rattle.meaning.specs.declared.value.TrapAt.{TrapAt}
-use Rattle.meaning.specs.declared.value.IterationCount.{IterationCount}
-use Rattle.meaning.specs.Logs.{Log, silence, single, sets, both, within, iteration, Traced, ◌>>=◌}
+use Rattle.operations.proofs.Orders.{rounds_alone}
+use Rattle.meaning.specs.Logs.{Log, within, iteration}
 use Rattle.meaning.specs.Sites.{Cells}
-use Rattle.meaning.specs.Statements.{Run, turns, Heads, iterations, words_of_all, run_all}
+use Rattle.meaning.specs.Statements.{Run, turns, Heads, iterations, words_of_all}
 use Rattle.fl_types.specs.Nests.{is_nest, further_head, iteration_body}
 use Rattle.transposition.proofs.Heads.{AllCounted, head_names, below_is, heads_is, settings, AllIndex, names_set, all_index}
 use Rattle.transposition.proofs.Nesting.{unwritten}
 use Rattle.transposition.specs.Tapes.{Tape, Tapes, none, more, many, empty, top_tapes, both_tapes, tape_count, tape_at, tape_after, iteration_tapes}
 use Rattle.transposition.specs.Worlds.{World, Local, in_iteration}
 use Rattle.transposition.specs.Back.{variables_of, loop_variables, heads_on, below_bounds, iteration_tree, parallel_back, back_all, after_pop}
-use Rattle.transposition.specs.Law.{Use, local, flat, Like, tangents, Fit, Cover, CoverAll, Ends, Undoes, Calm}
-use Rattle.transposition.proofs.Bounds.{Bound, bound}
+use Rattle.transposition.specs.Law.{Use, local, flat, Like, tangents, Fit, CoverAll, Ends, Calm}
+use Rattle.transposition.proofs.Bounds.{bound}
 use Rattle.transposition.proofs.Reading.{cover_both}
 use Rattle.transposition.proofs.Kept.{Keeps}
-use Rattle.transposition.proofs.Undone.{undone_both}
-use Rattle.transposition.proofs.Clears.{AllAccessed}
 use Rattle.transposition.proofs.Rounds.{Round, Step, Undo, disciplined, rounds_undone, below_by}
 use Rattle.transposition.proofs.Iterations.{KeptBody, UndoneBody, Varies, iteration_run, iter_run, begun, begun_other, begun_fit, iteration_step}
 use Rattle.transposition.specs.Calms.{cells_of, state_at, inner_of, log_at, iteration_log}
@@ -38,9 +30,6 @@ use Rattle.transposition.specs.Sound.{SoundRounds, writes_in, privates_of}
 use Rattle.transposition.specs.Worlds.{name_at}
 use Rattle.fl_types.specs.Sharing.{has_name}
 use Rattle.std.specs.Prelude.{bytes_eq, ◌||◌}
-use Rattle.std.proofs.lemmas.Slice.Eq.{bytes_eq-Decides}
-use Rattle.transposition.proofs.Keys.{Stands, stands}
-use Rattle.meaning.specs.Expressions.{content}
 
 -- ---- the states between the iterations, and their logs
 
@@ -80,9 +69,9 @@ record Taped (f : ℕ → Run) (s : Cells) (n : ℕ) : Type 0 where
 
 tapes_more : (f : ℕ → Run) (s : Cells) (n : ℕ) → Taped f s n → iteration_tapes (turns (suc n) f s).log ≡ both_tapes (iteration_tapes (turns n f s).log) (more (tape_after (log_at f s n) empty) none) → Taped f s (suc n)
 tapes_more f s n ih whole = record {
-    sized = ap tape_count whole ∙ (size_joined (iteration_tapes (turns n f s).log) (tape_after (log_at f s n) empty) ∙ (let e = ih.sized in omega arith));
-    each = λ i k. ap (λ (x : Tapes). tape_at x i) whole ∙ by_last i k (i == n) refl;
-  }
+  sized = ap tape_count whole ∙ (size_joined (iteration_tapes (turns n f s).log) (tape_after (log_at f s n) empty) ∙ (let e = ih.sized in omega arith));
+  each = λ i k. ap (λ (x : Tapes). tape_at x i) whole ∙ by_last i k (i == n) refl;
+}
   where
     by_last : (i : ℕ) → i < suc n → (c : Bool) → (i == n) ≡ c → tape_at (both_tapes (iteration_tapes (turns n f s).log) (more (tape_after (log_at f s n) empty) none)) i ≡ tape_after (log_at f s i) empty
     by_last i k true e = let g : i ≡ n = eqb-true i n e in tape_last (iteration_tapes (turns n f s).log) (tape_after (log_at f s n) empty) i (g ∙ sym ih.sized) ∙ ap (λ (j : ℕ). tape_after (log_at f s j) empty) (sym g)
@@ -127,12 +116,12 @@ iteration_kept w u inner number directive var tree sound keeping heads k s s2 va
     record {
       fit = record { long = kept.fit.long; room = kept.fit.room; kinds = kept.fit.kinds; still = λ p e. kept.fit.still p (sound.moved (name_at w.site.keys p) ∙ e) };
       same = λ p e.
-        let y = name_at w.site.keys p in
-        let a = or_one (bytes_eq y var) (has_name y directive.privates || writes_in y tree) e in
-        let b = or_two (bytes_eq y var) (has_name y directive.privates || writes_in y tree) e in
-        let c = or_one (has_name y directive.privates) (writes_in y tree) b in
-        let d = unwritten (is_nest directive tree) y tree (or_two (has_name y directive.privates) (writes_in y tree) b) in
-        kept.same p d.body_free ∙ begun_other w u inner number directive var tree sound xs varies s p
+          let y = name_at w.site.keys p in
+          let a = or_one (bytes_eq y var) (has_name y directive.privates || writes_in y tree) e in
+          let b = or_two (bytes_eq y var) (has_name y directive.privates || writes_in y tree) e in
+          let c = or_one (has_name y directive.privates) (writes_in y tree) b in
+          let d = unwritten (is_nest directive tree) y tree (or_two (has_name y directive.privates) (writes_in y tree) b) in
+          kept.same p d.body_free ∙ begun_other w u inner number directive var tree sound xs varies s p
           (unlisted (has_name y (privates_of w directive var tree)) (has_name y directive.privates) (sound.listed y) c)
           (or_neither (bytes_eq y var) (has_name y (variables_of (further_head directive tree))) a d.other);
     }
@@ -156,16 +145,16 @@ cover_order w v ts logs ops (suc n) e off h = cover_both w ts (in_order ops n) (
 
 round_world : {A : Type 0} (w v : World) (u : Use) (r : Played A) (s s2 : Cells) (vs bs : List ℕ) → v.shared ≡ w.shared → v.site.keys ≡ w.site.keys → Round v u r s s2 vs bs → Round w u r s s2 vs bs
 round_world w v u r s s2 vs bs e f h = record {
-    vs2 = h.vs2;
-    bs2 = h.bs2;
-    cells = rw (← e) h.cells;
-    like = rw (← f) h.like;
-    wide = rw (← f) h.wide;
-    long = rw (← f) h.long;
-    own = rw (← e) h.own;
-    mine = rw (← e) h.mine;
-    pairs = rw (← f) h.pairs;
-  }
+  vs2 = h.vs2;
+  bs2 = h.bs2;
+  cells = rw (← e) h.cells;
+  like = rw (← f) h.like;
+  wide = rw (← f) h.wide;
+  long = rw (← f) h.long;
+  own = rw (← e) h.own;
+  mine = rw (← e) h.mine;
+  pairs = rw (← f) h.pairs;
+}
 
 -- ---- the loop
 
@@ -186,10 +175,10 @@ pub parallel_undone : (w : World) (u inner : Use) (ts : Log) (number : ℕ) (dir
     → (tape : Tape) (vs bs : List ℕ) → Like u w.site.keys vs s2 → length vs ≡ length w.site.keys → length bs ≡ length w.site.keys
     → ParallelUndone w u ts number directive var tree heads tape (iteration_tapes (turns (iterations heads) (iteration_run w directive var tree heads) s).log) s s2 vs bs
 parallel_undone w u inner ts number directive var tree sound keeping undoing heads names counted s s2 fit h calm tape vs bs like wide long = record {
-    ends = subst (λ (l : List (List ℕ)). Ends w u ts (play (loop_with (heads_on l full) (below_bounds l full)) c) tape s s2 bs) names
+  ends = subst (λ (l : List (List ℕ)). Ends w u ts (play (loop_with (heads_on l full) (below_bounds l full)) c) tape s s2 bs) names
       (rw (heads_is heads (many tapes tape) counted, below_is heads (many tapes tape)) final);
-    orderly = orderly;
-  }
+  orderly = orderly;
+}
   where
     f : ℕ → Run
     f = iteration_run w directive var tree heads

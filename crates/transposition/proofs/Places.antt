@@ -1,5 +1,5 @@
 -- Lists of contents and of tangents.
-use Rattle.std.proofs.Common.{◌≡◌, ◌≢◌, ℕ, zero, suc, ◌+◌, ◌*◌, ◌<◌, ◌≤◌, List, [], ◌∷◌, refl, ap, sym, ◌∙◌, subst, arith, length, map, Bool, true, false, Option, Some, None}
+use Rattle.std.proofs.Common.{◌≡◌, ◌≢◌, ℕ, zero, suc, ◌<◌, ◌≤◌, List, [], ◌∷◌, refl, ap, sym, ◌∙◌, arith, length, map, Option, Some, None}
 use Rattle.std.specs.Prelude.{slice_index, slice_set, slice_get}
 use Rattle.meaning.specs.declared.value.Value.{Value}
 use Rattle.meaning.specs.Sites.{Cells}

@@ -1,18 +1,14 @@
 -- A plain assignment is undone, and the pairing kept.
-use Rattle.std.proofs.Common.{◌≡◌, ◌≢◌, ℕ, zero, suc, ◌+◌, ◌-◌, ◌*◌, ◌<◌, ◌≤◌, ◌==◌, List, [], ◌∷◌, ◌++◌, refl, ap, sym, ◌∙◌, subst, arith, length, map, take, drop, append_assoc, Bool, true, false, not, ◌&&◌, ◌||◌, cond, Option, Some, None, Result, Ok, Err, inl, inr, ℤ}
+use Rattle.std.proofs.Common.{◌≡◌, ◌≢◌, ℕ, ◌+◌, ◌*◌, ◌<◌, ◌==◌, List, [], ◌∷◌, ◌++◌, refl, ap, sym, ◌∙◌, subst, arith, length, map, append_assoc, Bool, true, false, not, ◌&&◌, ◌||◌, cond, Option, Some, None, Ok, inl, inr}
 use Rattle.std.specs.Prelude.{◌⊎◌, slice_index, slice_set, nat_lt, bytes_eq, if◌then◌else◌}
 use Rattle.std.proofs.lemmas.Bool.{and_parts, and_from, eqb-true, eq-eqb}
 use Rattle.std.proofs.lemmas.Slice.Eq.{bytes_eq-Decides}
-use Rattle.std.proofs.lemmas.List.{length-set, length-map, get_or-set_same, get_or-set_other}
-use Rattle.pairing.specs.Ring.{big, Same}
+use Rattle.std.proofs.lemmas.List.{length-set, get_or-set_same, get_or-set_other}
 use Rattle.pairing.specs.Pair.{pair, live}
 use Rattle.pairing.proofs.Sames.{of_equal, same_sum}
 use Rattle.pairing.proofs.Pairs.{pair_set, live_set, live_skip}
-use Rattle.fl_ast.specs.declared.kind.Kind.{Kind}
-use Rattle.fl_ast.specs.declared.kind.Kind.TheVariants as kind
 use Rattle.fl_ast.specs.Tree.{Expression, literal, get, minus, binary, power, call, Expressions, no_expressions, expression, Designator}
 use Rattle.fl_ast.specs.Occurs.{occurs, occurs_in_any}
-use Rattle.fl_types.specs.declared.access.AccessKind.{AccessKind}
 use Rattle.fl_types.specs.declared.access.AccessKind.TheVariants.{Read, Write, Update}
 use Rattle.operations.specs.declared.op.Op.{Op}
 use Rattle.operations.specs.declared.op.Op.TheVariants.{Load, Store}
@@ -21,27 +17,27 @@ use Rattle.operations.proofs.Trees.{bind}
 use Rattle.meaning.specs.declared.value.Value.{Value}
 use Rattle.meaning.specs.declared.value.Value.TheVariants.{Index, Ring}
 use Rattle.meaning.specs.declared.value.Cause.{Cause}
-use Rattle.meaning.specs.Values.{as_dual, as_kind, whole_numbers}
-use Rattle.meaning.specs.Logs.{Log, silence, single, both, within, right_side, touched, pushes, Traced, pure, lift, after, inside, ◌>>=◌}
+use Rattle.meaning.specs.Values.{as_kind, whole_numbers}
+use Rattle.meaning.specs.Logs.{Log, silence, single, both, within, right_side, touched, pushes, Traced, after, inside, ◌>>=◌}
 use Rattle.meaning.specs.Sites.{Key, Cells, Site, with_tangent, place_of, kind_of, word_of}
 use Rattle.meaning.specs.Expressions.{content, value_of, values_of}
 use Rattle.meaning.specs.Statements.{store_at, put, plain_assignment}
 use Rattle.meaning.specs.Adjoints.{tangent_of}
-use Rattle.transposition.specs.Tapes.{Tape, word, tape_after, top, rest}
+use Rattle.transposition.specs.Tapes.{Tape, word, tape_after, top}
 use Rattle.transposition.specs.Worlds.{World, Local, adjoint_load, set_adjoint, set_value, is_one_step, name_at}
 use Rattle.transposition.specs.Reads.{place_tree}
 use Rattle.transposition.specs.Spread.{occurrences, spread, with_sign}
 use Rattle.transposition.specs.Back.{after_pop, adjoint_tree, take_adjoint, restore_value, plain_back}
-use Rattle.transposition.specs.Law.{Use, flat, local, Like, Fit, tangents, HasTouch, HasDifferentiatedRead, Within, Cover, CoverAll, Ends, Undoes}
-use Rattle.transposition.specs.Needs.{Needs, NeedsAll, NeedsEach, Quiet}
+use Rattle.transposition.specs.Law.{Use, flat, local, Like, Fit, tangents, HasTouch, HasDifferentiatedRead, Within, CoverAll, Ends, Undoes}
+use Rattle.transposition.specs.Needs.{Needs, NeedsAll}
 use Rattle.transposition.specs.Sound.{SoundTarget, SoundPlain}
-use Rattle.transposition.proofs.Split.{before, played, reading, making, adjoint_at_played, set_adjoint_played, set_value_played}
+use Rattle.transposition.proofs.Split.{before, making, adjoint_at_played, set_adjoint_played, set_value_played}
 use Rattle.transposition.proofs.Keys.{Stands, stands}
-use Rattle.transposition.proofs.Places.{content_set_same, content_set_other, tangents_set}
-use Rattle.transposition.proofs.Tangents.{worth, moves}
-use Rattle.transposition.proofs.Reading.{TouchesIn, Scene, room, Got, got_then, got_done, got_bind, place_got, Placed, cover_both, cover_value, cover_adjoint}
-use Rattle.transposition.proofs.Bounds.{Bound, bound, Inside}
-use Rattle.transposition.proofs.Spreading.{silent, Spreads, spreads, tangents_long}
+use Rattle.transposition.proofs.Places.{content_set_other, tangents_set}
+use Rattle.transposition.proofs.Tangents.{moves}
+use Rattle.transposition.proofs.Reading.{TouchesIn, Scene, room, Got, got_then, got_bind, place_got, Placed, cover_both, cover_value, cover_adjoint}
+use Rattle.transposition.proofs.Bounds.{bound, Inside}
+use Rattle.transposition.proofs.Spreading.{silent, spreads, tangents_long}
 use Rattle.transposition.proofs.Calculus.{Sums, expression_sums}
 use Rattle.transposition.proofs.Taping.{wordless, wordless_all}
 
@@ -216,15 +212,15 @@ appended r os us = ap (λ (l : List Op). record { out = r.out; cells = r.cells; 
 moved_ran : (w : World) (u : Use) (s : Cells) (vs bs : List ℕ) (t : Tape) (ts : Log) → Scene w u s vs bs → (p : Designator) (q : ℕ) → NeedsAll u p.subscripts → Placed w s ts p q
     → (w.site.accessed p.name ≡ true → HasTouch Write q ts) → Moved w ts p q t vs bs
 moved_ran w u s vs bs t ts h p q n k covered = record {
-    ops = (play (adjoint_tree w p l) c).ops ++ ((play (place_tree p w l) c).ops ++ making w.shared q (Store (w.shared + q) 0));
-    cover = cover_both w ts _ _ (one.cover (silent ts)) (cover_both w ts _ _ (two.cover (silent ts)) (by_test (nat_lt q w.shared) refl));
-    ran = λ f.
+  ops = (play (adjoint_tree w p l) c).ops ++ ((play (place_tree p w l) c).ops ++ making w.shared q (Store (w.shared + q) 0));
+  cover = cover_both w ts _ _ (one.cover (silent ts)) (cover_both w ts _ _ (two.cover (silent ts)) (by_test (nat_lt q w.shared) refl));
+  ran = λ f.
       got_then w ts silence (adjoint_tree w p l) (λ a. and_then (place_tree p w l) (λ j. and_then (set_adjoint w j 0 l) (f a))) c (slice_index bs q) one
       ∙ (ap (before (play (adjoint_tree w p l) c).ops) (got_then w ts silence (place_tree p w l) (λ j. and_then (set_adjoint w j 0 l) (f (slice_index bs q))) c q two
       ∙ ap (before (play (place_tree p w l) c).ops) (bind (set_adjoint w q 0 l) (f (slice_index bs q)) c ∙ (rw (set_adjoint_played w t q 0 vs bs (room w u s vs bs h)) refl)))
       ∙ (ap (before (play (adjoint_tree w p l) c).ops) (appended (play (f (slice_index bs q) (local w.shared t vs (slice_set bs q 0))) (flat w.shared vs (slice_set bs q 0))) (play (place_tree p w l) c).ops (making w.shared q (Store (w.shared + q) 0)))
       ∙ appended (play (f (slice_index bs q) (local w.shared t vs (slice_set bs q 0))) (flat w.shared vs (slice_set bs q 0))) (play (adjoint_tree w p l) c).ops ((play (place_tree p w l) c).ops ++ making w.shared q (Store (w.shared + q) 0))));
-  }
+}
   where
     c : List ℕ
     c = flat w.shared vs bs
@@ -294,13 +290,13 @@ restored_ran w u s x vs bs t ts fit p q sound k covered l wide long = by_push (w
           cover = cover_both w ts _ _ (one.cover (silent ts)) store_cover;
         }))
     by_push false e = record {
-        vs1 = vs;
-        out = refl;
-        cells = refl;
-        like = like_other u w.site.keys vs s q x (ap u.needed st.named ∙ off (u.needed p.name) refl) l;
-        wide = wide;
-        cover = tt;
-      }
+      vs1 = vs;
+      out = refl;
+      cells = refl;
+      like = like_other u w.site.keys vs s q x (ap u.needed st.named ∙ off (u.needed p.name) refl) l;
+      wide = wide;
+      cover = tt;
+    }
       where
         off : (b : Bool) → u.needed p.name ≡ b → u.needed p.name ≡ false
         off true f = absurd (let g : true ≡ false = sym (sound.pushed f) ∙ e in cc)

@@ -1,6 +1,6 @@
 -- Private scalars: unset at an iteration's start, popped and cleared at the start of its reverse.
-use Rattle.std.proofs.Common.{◌≡◌, ◌≢◌, ℕ, zero, suc, ◌+◌, ◌-◌, ◌*◌, ◌<◌, ◌≤◌, ◌==◌, List, [], ◌∷◌, ◌++◌, refl, ap, sym, ◌∙◌, subst, arith, length, take, drop, map, Bool, true, false, not, ◌&&◌, ◌||◌, cond, Option, Some, None}
-use Rattle.std.specs.Prelude.{slice_index, slice_set, bytes_eq, nat_lt, if◌then◌else◌}
+use Rattle.std.proofs.Common.{◌≡◌, ◌≢◌, ℕ, zero, suc, ◌+◌, ◌*◌, ◌<◌, ◌==◌, List, [], ◌∷◌, refl, ap, sym, ◌∙◌, subst, arith, length, take, drop, map, Bool, true, false, ◌&&◌, ◌||◌, cond, Option, Some, None}
+use Rattle.std.specs.Prelude.{slice_index, slice_set, bytes_eq}
 use Rattle.std.proofs.lemmas.Bool.{eqb-true, eq-eqb}
 use Rattle.std.proofs.lemmas.Slice.Eq.{bytes_eq-Decides}
 use Rattle.std.proofs.lemmas.List.{length-set, get_or-set_same, get_or-set_other}
@@ -8,17 +8,16 @@ use Rattle.pairing.specs.Pair.{pair, live}
 use Rattle.fl_ast.specs.Tree.{Statements}
 use Rattle.fl_types.specs.Sharing.{has_name, assigns_in}
 use Rattle.meaning.specs.declared.value.Value.{Value}
-use Rattle.meaning.specs.Logs.{Log, single, pushes}
 use Rattle.meaning.specs.Sites.{Key, Cells, Site, place_of, word_of}
 use Rattle.meaning.specs.Expressions.{content}
 use Rattle.meaning.specs.Statements.{set_at, with_all_unset, content_at, private_words}
 use Rattle.meaning.specs.Adjoints.{tangent_of}
-use Rattle.transposition.specs.Tapes.{Tape, word, tape_after, top, rest}
-use Rattle.transposition.specs.Worlds.{World, Local, with_value, with_adjoint, name_at}
+use Rattle.transposition.specs.Tapes.{Tape, word, tape_after}
+use Rattle.transposition.specs.Worlds.{World, with_value, with_adjoint, name_at}
 use Rattle.transposition.specs.Reads.{place_or_zero}
-use Rattle.transposition.specs.Back.{after_pop, pop_privates, clear_privates}
-use Rattle.transposition.specs.Law.{Use, local, flat, tangents}
-use Rattle.transposition.specs.Sound.{Own, AllOwn}
+use Rattle.transposition.specs.Back.{pop_privates, clear_privates}
+use Rattle.transposition.specs.Law.{Use, local, tangents}
+use Rattle.transposition.specs.Sound.{AllOwn}
 use Rattle.meaning.specs.Sites.{with_tangent}
 use Rattle.transposition.proofs.Plain.{word_plain}
 use Rattle.transposition.proofs.Split.{set_own, cells_kept}
@@ -105,7 +104,7 @@ cleared w (x ∷ xs) t vs bs h =
     let st = stands w.site.keys x [] q h.0.place in
     let k = cleared w xs t vs (slice_set bs q 0) h.1 in
     let first : with_adjoint w (place_or_zero (place_of w.site x [])) 0 (local w.shared t vs bs) ≡ local w.shared t vs (slice_set bs q 0) =
-        ap (λ (o : Option ℕ). with_adjoint w (place_or_zero o) 0 (local w.shared t vs bs)) h.0.place ∙ ap (λ (l : List ℕ). record { tape = t; values = drop w.shared vs; adjoints = l }) (set_own w.shared q 0 bs h.0.own) in
+    ap (λ (o : Option ℕ). with_adjoint w (place_or_zero o) 0 (local w.shared t vs bs)) h.0.place ∙ ap (λ (l : List ℕ). record { tape = t; values = drop w.shared vs; adjoints = l }) (set_own w.shared q 0 bs h.0.own) in
     record {
       bs1 = k.bs1;
       out = ap (clear_privates w xs) first ∙ k.out;
@@ -113,7 +112,7 @@ cleared w (x ∷ xs) t vs bs h =
       long = k.long ∙ length-set bs q 0;
       here = λ p e. here_by k.bs1 p e (bytes_eq (name_at w.site.keys p) x) refl k.stays k.here;
       other = λ p e. k.other p (or_right (bytes_eq (name_at w.site.keys p) x) (has_name (name_at w.site.keys p) xs) e)
-        ∙ get_or-set_other bs q p 0 0 (λ f. different (name_at w.site.keys p) x (or_left (bytes_eq (name_at w.site.keys p) x) (has_name (name_at w.site.keys p) xs) e) (ap (name_at w.site.keys) f ∙ st.named));
+          ∙ get_or-set_other bs q p 0 0 (λ f. different (name_at w.site.keys p) x (or_left (bytes_eq (name_at w.site.keys p) x) (has_name (name_at w.site.keys p) xs) e) (ap (name_at w.site.keys) f ∙ st.named));
       stays = λ p e. k.stays p (stays_by p e (p == q) refl);
     }
   where
@@ -159,7 +158,7 @@ refilled w tree (x ∷ xs) s t vs bs h = by_test (assigns_in x tree && w.site.pu
     by_test true e _ more =
         let k = more old in
         let set-one : with_value w (place_or_zero (place_of w.site x [])) old (local w.shared t k.vs1 bs) ≡ local w.shared t (slice_set k.vs1 q old) bs =
-            ap (λ (o : Option ℕ). with_value w (place_or_zero o) old (local w.shared t k.vs1 bs)) h.0.place ∙ ap (λ (l : List ℕ). record { tape = t; values = l; adjoints = drop w.shared bs }) (set_own w.shared q old k.vs1 h.0.own) in
+        ap (λ (o : Option ℕ). with_value w (place_or_zero o) old (local w.shared t k.vs1 bs)) h.0.place ∙ ap (λ (l : List ℕ). record { tape = t; values = l; adjoints = drop w.shared bs }) (set_own w.shared q old k.vs1 h.0.own) in
         record {
           vs1 = slice_set k.vs1 q old;
           out = rw e (rw k.out set-one);
@@ -167,7 +166,7 @@ refilled w tree (x ∷ xs) s t vs bs h = by_test (assigns_in x tree && w.site.pu
           long = length-set k.vs1 q old ∙ k.long;
           here = λ p l f a b. here_by k.vs1 k.long k.here p l f a b (bytes_eq (name_at w.site.keys p) x) refl;
           other = λ p f. get_or-set_other k.vs1 q p old 0 (λ g. different (name_at w.site.keys p) x (or_left (bytes_eq (name_at w.site.keys p) x) (has_name (name_at w.site.keys p) xs) f) (ap (name_at w.site.keys) g ∙ st.named))
-            ∙ k.other p (or_right (bytes_eq (name_at w.site.keys p) x) (has_name (name_at w.site.keys p) xs) f);
+              ∙ k.other p (or_right (bytes_eq (name_at w.site.keys p) x) (has_name (name_at w.site.keys p) xs) f);
         }
       where
         here_by : (ys : List ℕ) → length ys ≡ length vs → ((p : ℕ) → p < length vs → has_name (name_at w.site.keys p) xs ≡ true → assigns_in (name_at w.site.keys p) tree ≡ true → w.site.pushed (name_at w.site.keys p) ≡ true → slice_index ys p ≡ word_of (content s p))
@@ -179,13 +178,13 @@ refilled w tree (x ∷ xs) s t vs bs h = by_test (assigns_in x tree && w.site.pu
         here_by ys size g p l f a b false i =
             get_or-set_other ys q p old 0 (λ j. different (name_at w.site.keys p) x i (ap (name_at w.site.keys) j ∙ st.named)) ∙ g p l (or_true (bytes_eq (name_at w.site.keys p) x) (has_name (name_at w.site.keys p) xs) f i) a b
     by_test false e k _ = record {
-        vs1 = k.vs1;
-        out = rw e (k.out);
-        cells = k.cells;
-        long = k.long;
-        here = λ p l f a b. here_by p l f a b (bytes_eq (name_at w.site.keys p) x) refl;
-        other = λ p f. k.other p (or_right (bytes_eq (name_at w.site.keys p) x) (has_name (name_at w.site.keys p) xs) f);
-      }
+      vs1 = k.vs1;
+      out = rw e (k.out);
+      cells = k.cells;
+      long = k.long;
+      here = λ p l f a b. here_by p l f a b (bytes_eq (name_at w.site.keys p) x) refl;
+      other = λ p f. k.other p (or_right (bytes_eq (name_at w.site.keys p) x) (has_name (name_at w.site.keys p) xs) f);
+    }
       where
         here_by : (p : ℕ) → p < length vs → has_name (name_at w.site.keys p) (x ∷ xs) ≡ true → assigns_in (name_at w.site.keys p) tree ≡ true → w.site.pushed (name_at w.site.keys p) ≡ true → (b : Bool) → bytes_eq (name_at w.site.keys p) x ≡ b
             → slice_index k.vs1 p ≡ word_of (content s p)

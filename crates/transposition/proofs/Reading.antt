@@ -1,5 +1,5 @@
 -- Reading in the reverse part: what the forward run read, by loads that its touches cover.
-use Rattle.std.proofs.Common.{◌≡◌, ℕ, zero, suc, ◌+◌, ◌-◌, ◌<◌, ◌≤◌, List, [], ◌∷◌, ◌++◌, refl, ap, sym, ◌∙◌, subst, arith, length, take, drop, Bool, true, false, not, ◌&&◌, ◌||◌, cond, Option, Some, None, Result, Ok, Err, inl, inr, ℤ}
+use Rattle.std.proofs.Common.{◌≡◌, ℕ, ◌+◌, ◌-◌, ◌≤◌, List, [], ◌∷◌, ◌++◌, refl, ap, sym, ◌∙◌, subst, arith, length, Bool, true, false, not, ◌&&◌, ◌||◌, cond, Option, Some, None, Result, Ok, Err, inl, inr, ℤ}
 use Rattle.std.specs.Prelude.{slice_index, nat_lt, if◌then◌else◌}
 use Rattle.fl_ast.specs.Tree.{Expression, literal, get, minus, binary, power, call, Expressions, no_expressions, expression, Designator, Condition, relation, negation, conjunction, disjunction}
 use Rattle.fl_types.specs.declared.access.AccessKind.{AccessKind}
@@ -12,16 +12,16 @@ use Rattle.operations.proofs.Trees.{bind}
 use Rattle.meaning.specs.declared.value.Value.{Value}
 use Rattle.meaning.specs.declared.value.Cause.{Cause}
 use Rattle.meaning.specs.Values.{Found, literal_value, binary_result, negation_result, power_result, call_result, relates, whole_numbers}
-use Rattle.meaning.specs.Logs.{Log, silence, single, both, within, touched, Traced, pure, lift, after, continuation, ◌>>=◌}
-use Rattle.meaning.specs.Sites.{Key, Cells, Site, place_of, kind_of, word_of}
-use Rattle.meaning.specs.Expressions.{after_touch, content, read_cell, read_place, read, value_of, values_of, holds}
+use Rattle.meaning.specs.Logs.{Log, silence, both, touched, Traced, pure, lift, after, continuation, ◌>>=◌}
+use Rattle.meaning.specs.Sites.{Cells, Site, place_of, kind_of}
+use Rattle.meaning.specs.Expressions.{content, read_cell, read_place, read, value_of, values_of, holds}
 use Rattle.transposition.specs.Tapes.{Tape}
-use Rattle.transposition.specs.Worlds.{World, Local, value_load, name_at}
+use Rattle.transposition.specs.Worlds.{World, value_load, name_at}
 use Rattle.transposition.specs.Reads.{value_from, value_or_zero, place_or_zero, read_at, value_tree, values_tree, holds_tree, place_tree}
 use Rattle.transposition.specs.Law.{Use, flat, local, Like, HasKind, Fit, HasTouch, Cover, CoverAt, CoverAll}
 use Rattle.transposition.specs.Needs.{Needs, NeedsAll, NeedsCondition}
 use Rattle.transposition.proofs.Split.{before, played, reading, value_at_played, less, is_not_less}
-use Rattle.transposition.proofs.Flats.{flat_value, flat_values, same, decoded, Maps, wholes_flat, literal_maps, binary_maps, negated_maps, power_maps, call_maps, relates_flat}
+use Rattle.transposition.proofs.Flats.{flat_value, flat_values, decoded, Maps, wholes_flat, literal_maps, binary_maps, negated_maps, power_maps, call_maps, relates_flat}
 use Rattle.transposition.proofs.Keys.{Stands, stands}
 
 -- ---- covers
@@ -217,7 +217,7 @@ pub place_got : (w : World) (u : Use) (s : Cells) (vs bs : List ℕ) (t : Tape) 
 place_got w u s vs bs t ts h d p q k =
     let c = flat w.shared vs bs in
     let g : Got w ts c (play (values_tree d.subscripts w (local w.shared t vs bs)) c) (flat_values k.vals) (values_of d.subscripts w.site s).log =
-        gets_ok w ts c flat_values _ _ (values_of d.subscripts w.site s).out k.vals k.out (values_got w u s vs bs t ts h d.subscripts q) in
+    gets_ok w ts c flat_values _ _ (values_of d.subscripts w.site s).out k.vals k.out (values_got w u s vs bs t ts h d.subscripts q) in
     let e : place_or_zero (place_of w.site d.name (whole_numbers (flat_values k.vals))) ≡ p = rw (wholes_flat k.vals) (ap place_or_zero k.place) in
     got_bind w ts c (values_tree d.subscripts w (local w.shared t vs bs)) (λ xs. done (place_or_zero (place_of w.site d.name (whole_numbers xs)))) (flat_values k.vals) p (got_told w ts c _ _ _ k.told g)
     (rw e (got_done w ts c p))

@@ -1,5 +1,5 @@
 -- Iterations in ascending order, each undone by itself.
-use Rattle.std.proofs.Common.{◌≡◌, ◌≢◌, ℕ, zero, suc, ◌+◌, ◌-◌, ◌<◌, ◌≤◌, ◌==◌, List, [], ◌∷◌, ◌++◌, refl, ap, sym, ◌∙◌, subst, arith, length, take, drop, Bool, true, false, append-nil}
+use Rattle.std.proofs.Common.{◌≡◌, ◌≢◌, ℕ, zero, suc, ◌<◌, ◌==◌, List, [], ◌++◌, refl, ap, sym, ◌∙◌, subst, arith, length, drop, Bool, true, false, append-nil}
 use Rattle.std.proofs.lemmas.Bool.{eqb-true, eq-eqb}
 use Rattle.pairing.specs.Ring.{Same}
 use Rattle.pairing.specs.Pair.{pair}
@@ -10,12 +10,11 @@ use Rattle.operations.specs.Tree.{Tree, done, and_then, Played, play, IsSwapped}
 use Rattle.transposition.proofs.Split.{less, not_less}
 use Rattle.operations.specs.Order.{in_order, IsDisciplined, ops_alone, rounds}
 use Rattle.operations.proofs.Trees.{bind, by_ops, past_back_all, trees_swap}
-use Rattle.operations.proofs.Orders.{apart_before, before_apart, Rounds, rounds_alone}
+use Rattle.operations.proofs.Orders.{apart_before, before_apart, rounds_alone}
 use Rattle.meaning.specs.Logs.{Log}
 use Rattle.meaning.specs.Sites.{Cells}
 use Rattle.transposition.specs.Worlds.{World}
 use Rattle.transposition.specs.Law.{Use, flat, Like, tangents, CoverAll, Calm}
-use Rattle.transposition.proofs.Reading.{cover_both}
 use Rattle.transposition.proofs.Clears.{AllAccessed, apart_of}
 
 pub below_by : (i n : ℕ) → i < suc n → i ≢ n → i < n
@@ -55,19 +54,19 @@ disciplined w g logs n c all calm each j k i l d = apart_of w (logs j) (logs k) 
 round_more : {A : Type 0} (w : World) (u : Use) (g : ℕ → Tree A) (logs : ℕ → Log) (s s1 s2 : Cells) (n : ℕ) (vs bs : List ℕ) → AllAccessed w → ((i j : ℕ) → i < suc n → j < suc n → i ≢ j → Calm w (logs i) (logs j))
     → (one : Round w u (play (g n) (flat w.shared vs bs)) s1 s2 vs bs) → CoverAll w (logs n) (play (g n) (flat w.shared vs bs)).ops → Undo w u g logs n s s1 one.vs2 one.bs2 → Undo w u g logs (suc n) s s2 vs bs
 round_more {A} w u g logs s s1 s2 n vs bs all calm one cover-one ih = record {
-    all = record {
-      vs2 = ih.all.vs2;
-      bs2 = ih.all.bs2;
-      cells = sw.cells ∙ (ap (λ (d : List ℕ). (play (rounds g n) d).cells) u-cells ∙ ih.all.cells);
-      like = ih.all.like;
-      wide = ih.all.wide;
-      long = ih.all.long;
-      own = ih.all.own ∙ one.own;
-      mine = ih.all.mine ∙ one.mine;
-      pairs = ih.all.pairs ∙ one.pairs;
-    };
-    each = λ i h. by_last i h (i == n) refl;
-  }
+  all = record {
+    vs2 = ih.all.vs2;
+    bs2 = ih.all.bs2;
+    cells = sw.cells ∙ (ap (λ (d : List ℕ). (play (rounds g n) d).cells) u-cells ∙ ih.all.cells);
+    like = ih.all.like;
+    wide = ih.all.wide;
+    long = ih.all.long;
+    own = ih.all.own ∙ one.own;
+    mine = ih.all.mine ∙ one.mine;
+    pairs = ih.all.pairs ∙ one.pairs;
+  };
+  each = λ i h. by_last i h (i == n) refl;
+}
   where
     c : List ℕ
     c = flat w.shared vs bs

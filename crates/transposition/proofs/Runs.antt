@@ -1,51 +1,29 @@
 -- What runs of statements keep.
-use Rattle.std.proofs.Common.{◌≡◌, ◌≢◌, ℕ, zero, suc, ◌+◌, ◌*◌, ◌%◌, ◌<◌, ◌^◌, ◌==◌, List, [], ◌∷◌, ◌++◌, refl, ap, sym, ◌∙◌, subst, arith, length, Bool, true, false, not, ◌||◌, Option, Some, None, Result, Ok, Err, ℤ, pos, negsuc}
-use Rattle.std.specs.Prelude.{slice_set, bytes_eq, if◌then◌else◌, ◌+ℤ◌, ◌*ℤ◌}
-use Rattle.std.specs.Int.{w64, cast_unsigned}
-use Rattle.std.proofs.lemmas.Bool.{eqb-true, eq-eqb}
-use Rattle.std.proofs.lemmas.Slice.Eq.{bytes_eq-Decides}
-use Rattle.std.proofs.lemmas.List.{length-set}
-use Rattle.std.proofs.lemmas.Bool.Decides.{nat_tests}
-use Rattle.ring_core.specs.Index.{IsIndex, fits_index}
-use Rattle.pairing.specs.Ring.{Same}
-use Rattle.pairing.proofs.Sames.{of_equal, same_sum, same_product}
-use Rattle.fl_ast.specs.declared.kind.Kind.{Kind}
-use Rattle.fl_ast.specs.declared.kind.Kind.TheVariants as kind
-use Rattle.fl_ast.specs.declared.directive.Directive.{Directive}
-use Rattle.fl_ast.specs.Tree.{Expression, Designator, Statement, assignment, branch, loop, Statements, no_statements, statement, Arms, no_arms, arm, Condition}
-use Rattle.fl_types.specs.declared.access.AccessKind.{AccessKind}
-use Rattle.fl_types.specs.Increment.{Signed, increment_terms}
-use Rattle.fl_types.specs.Accesses.{increment_kind}
-use Rattle.meaning.specs.declared.value.Dual.{Dual}
+use Rattle.std.proofs.Common.{◌≡◌, ℕ, zero, suc, ◌<◌, List, [], refl, subst, arith, Bool, true, false, ◌||◌, Option, Some, None, Result, Ok, Err, ℤ, pos}
+use Rattle.std.specs.Prelude.{slice_set, bytes_eq, if◌then◌else◌, ◌+ℤ◌}
+use Rattle.ring_core.specs.Index.{IsIndex}
+use Rattle.fl_ast.specs.Tree.{Expression}
 use Rattle.meaning.specs.declared.value.Value.{Value}
 use Rattle.meaning.specs.declared.value.Value.TheVariants.{Index, Ring}
 use Rattle.meaning.specs.declared.value.Cause.{Cause}
-use Rattle.meaning.specs.declared.value.TrapAt.{TrapAt}
 use Rattle.meaning.specs.declared.value.IterationCount.{IterationCount}
 use Rattle.meaning.specs.Values.{whole_number}
-use Rattle.meaning.specs.Logs.{Log, Traced, pure, lift, after, inside, at_line, at_line_by, instance, turn, condition, taken, ◌>>=◌}
-use Rattle.meaning.specs.Sites.{Key, Cells, Site, place_of, kind_of}
-use Rattle.meaning.specs.Expressions.{content, value_of, holds}
-use Rattle.meaning.specs.Statements.{Run, with_log, assignment_by, turns_by, step_value, turns_of, value_at, set_at, turns, loop_words, one_turn, choice, in_arm, run, run_all, run_arms}
-use Rattle.meaning.specs.Adjoints.{tangent_of}
-use Rattle.transposition.specs.Worlds.{World, name_at, in_turn}
+use Rattle.meaning.specs.Logs.{Log, Traced, pure, lift, at_line, at_line_by, ◌>>=◌}
+use Rattle.meaning.specs.Sites.{Cells, Site, kind_of}
+use Rattle.meaning.specs.Expressions.{value_of}
+use Rattle.meaning.specs.Statements.{Run, with_log, turns_by, step_value, turns_of, value_at, set_at, turns, one_turn}
+use Rattle.transposition.specs.Worlds.{World, in_turn}
 use Rattle.transposition.specs.Law.{Use, Fit, HasKind}
-use Rattle.transposition.specs.Sound.{OptionLiterals, Literals, SoundVariable, SoundAssigned, scope_with, writes, writes_in, writes_in_arms, Sound, SoundAll, SoundArms}
-use Rattle.transposition.proofs.Keys.{Stands, stands}
-use Rattle.transposition.proofs.Places.{content_set_same, content_set_other}
-use Rattle.transposition.proofs.Tangents.{moves, moves_is}
+use Rattle.transposition.specs.Sound.{OptionLiterals, Literals, SoundVariable, scope_with}
+use Rattle.transposition.proofs.Keys.{stands}
 use Rattle.transposition.proofs.Bounds.{bound}
-use Rattle.transposition.proofs.Sizes.{below, Sized, value_sized, IsWhole, value_whole}
-use Rattle.transposition.proofs.Stills.{value_still}
-use Rattle.transposition.proofs.Plain.{PlainRun, plain_run}
-use Rattle.transposition.proofs.Increments.{IncrementRun, increment_run, TermsRun, terms_run, drift, grown_tangent, ring_held, tangent_held}
-
+use Rattle.transposition.proofs.Sizes.{Sized, value_sized}
 use Rattle.std.specs.Ordering.{int_eq}
 use Rattle.std.specs.Prelude.{int_div, ◌-ℤ◌}
 use Rattle.store_core.specs.Bounds.{clipped}
 use Rattle.meaning.proofs.Variables.{variables_fit}
 use Rattle.meaning.specs.Sites.{in_turn as site_in_turn}
-use Rattle.transposition.proofs.Kept.{Keeps, keeps_itself, keeps_both, keeps_wider, fit_set, keeps_set, assigned_kept}
+use Rattle.transposition.proofs.Kept.{Keeps, keeps_itself, keeps_both, keeps_wider, keeps_set}
 
 -- ---- parts of runs
 
@@ -138,4 +116,3 @@ turns_kept w u test (suc n) f step s s2 fit h =
     let one = turns_kept w u test n f (λ k i. step k (omega arith)) s b.a fit b.first in
     let more = step n (omega arith) b.a s2 one.fit b.second in
     keeps_wider w u (λ x. test x || test x) test s s2 (λ x e. rw e refl) (keeps_both w u test test s b.a s2 one more)
-

@@ -1,10 +1,9 @@
 -- Values are of their kind's size.
-use Rattle.std.proofs.Common.{◌≡◌, ℕ, zero, suc, ◌+◌, ◌*◌, ◌%◌, ◌<◌, ◌≤◌, ◌^◌, List, [], ◌∷◌, refl, ap, sym, ◌∙◌, subst, arith, Bool, true, false, Option, Some, None, Result, Ok, Err, ℤ, pos, negsuc}
+use Rattle.std.proofs.Common.{◌≡◌, ℕ, zero, suc, ◌+◌, ◌*◌, ◌%◌, ◌<◌, ◌≤◌, ◌^◌, List, [], ◌∷◌, refl, sym, subst, arith, Bool, true, false, Result, Ok, Err, ℤ, pos, negsuc}
 use Rattle.std.specs.Prelude.{int_le, int_lt, if◌then◌else◌, ◌+ℤ◌, ◌-ℤ◌, ◌*ℤ◌, neg_ℤ, int_div, int_rem}
-use Rattle.std.specs.Int.{w64, cast_unsigned, int_pow}
+use Rattle.std.specs.Int.{int_pow}
 use Rattle.std.proofs.lemmas.Bool.Decides.{nat_tests}
 use Rattle.ring_core.specs.declared.ring.Width.{Width}
-use Rattle.ring_core.specs.Ring.{ring_add, ring_sub, ring_mul, ring_neg}
 use Rattle.ring_core.specs.Index.{IsIndex, fits_index, exact_index, unless_zero, index_div, index_rem}
 use Rattle.ring_core.specs.declared.index.IndexTrap.{IndexTrap}
 use Rattle.ring_core.specs.declared.index.IndexTrap.TheVariants as index_trap
@@ -18,16 +17,16 @@ use Rattle.fl_ast.specs.Tree.{Expression, literal, get, minus, binary, power, ca
 use Rattle.meaning.specs.declared.value.Dual.{Dual}
 use Rattle.meaning.specs.declared.value.Value.{Value}
 use Rattle.meaning.specs.declared.value.Value.TheVariants.{Index, Ring}
-use Rattle.meaning.specs.Values.{Found, of_index, dual_pow, as_dual, rank, literal_value, index_result, ring_result, binary_result, negation_result, power_result, larger_result, smaller_result, absolute_result, remainder, on_one, on_two, call_result}
-use Rattle.meaning.specs.Logs.{Traced, pure, lift, ◌>>=◌}
-use Rattle.meaning.specs.Sites.{Cells, Site, place_of, kind_of}
-use Rattle.meaning.specs.Expressions.{content, read, value_of, values_of}
+use Rattle.meaning.specs.Values.{Found, of_index, dual_pow, as_dual, rank, literal_value, ring_result, binary_result, negation_result, power_result, absolute_result, remainder, call_result}
+use Rattle.meaning.specs.Logs.{lift, ◌>>=◌}
+use Rattle.meaning.specs.Sites.{Cells, place_of, kind_of}
+use Rattle.meaning.specs.Expressions.{read, value_of, values_of}
 use Rattle.transposition.specs.Worlds.{World, name_at}
 use Rattle.meaning.specs.Values.{whole_numbers}
 use Rattle.transposition.specs.Law.{Use, Fit, HasKind}
 use Rattle.transposition.specs.Sound.{Literals, LiteralsAll, Whole, WholeAll}
-use Rattle.transposition.proofs.Keys.{Stands, stands}
-use Rattle.transposition.proofs.Bounds.{Bound, bound, ReadAt, read_inverted, Listed, listed}
+use Rattle.transposition.proofs.Keys.{stands}
+use Rattle.transposition.proofs.Bounds.{bound, read_inverted, listed}
 
 abbrev pub Sized : Value → Type 0
 Sized (Index z) = IsIndex z

@@ -1,15 +1,15 @@
 -- Reaching a place: a cell, or a word of the iteration's own.
-use Rattle.std.proofs.Common.{◌≡◌, ◌≢◌, ℕ, zero, suc, ◌+◌, ◌-◌, ◌<◌, ◌≤◌, List, [], ◌∷◌, ◌++◌, refl, ap, sym, ◌∙◌, subst, arith, length, take, drop, Bool, true, false, cond, inl, inr}
+use Rattle.std.proofs.Common.{◌≡◌, ℕ, zero, suc, ◌+◌, ◌-◌, ◌<◌, ◌≤◌, List, [], ◌∷◌, ◌++◌, refl, ap, sym, ◌∙◌, arith, length, take, drop, Bool, true, false, cond}
 use Rattle.std.specs.Prelude.{slice_index, slice_set, nat_lt}
 use Rattle.std.proofs.lemmas.Bool.Decides.{nat_tests}
-use Rattle.std.proofs.lemmas.List.{get_or_append_left, get_or-take, get_or-drop, get_or-append-add, set-append_left, set-append_right, drop-set-lt, drop-set-add, take-set-le, length-take-le, length-set}
+use Rattle.std.proofs.lemmas.List.{get_or_append_left, get_or-take, get_or-drop, get_or-append-add, set-append_left, set-append_right, drop-set-lt, drop-set-add, take-set-le, length-take-le}
 use Rattle.ring_core.specs.Ring.{ring_add}
 use Rattle.fl_types.specs.declared.choice.Choice.{Choice}
 use Rattle.operations.specs.declared.op.Op.{Op}
 use Rattle.operations.specs.declared.op.Op.TheVariants.{Load, Store, Bump, Add}
-use Rattle.operations.specs.Tree.{Tree, done, loads, does, Played, after, play}
+use Rattle.operations.specs.Tree.{done, loads, does, Played, play}
 use Rattle.transposition.specs.Tapes.{Tape}
-use Rattle.transposition.specs.Worlds.{World, Local, value_load, adjoint_load, with_value, with_adjoint, set_value, set_adjoint, addition, is_one_step, increment_adjoint, increment_value}
+use Rattle.transposition.specs.Worlds.{World, value_load, adjoint_load, with_value, with_adjoint, set_value, set_adjoint, addition, is_one_step, increment_adjoint, increment_value}
 use Rattle.transposition.specs.Law.{flat, local}
 
 pub less : (p n : ℕ) → nat_lt p n ≡ true → p < n
@@ -121,7 +121,7 @@ adds_to_played false q a l c = refl
 pub grow_adjoint_played : (w : World) (c : Choice) (t : Tape) (p a : ℕ) (vs bs : List ℕ) → w.shared ≤ length vs
     → play (increment_adjoint w c p a (local w.shared t vs bs)) (flat w.shared vs bs)
     ≡ played (local w.shared t vs (slice_set bs p (ring_add (slice_index bs p) a))) (flat w.shared vs (slice_set bs p (ring_add (slice_index bs p) a)))
-      (cond (nat_lt p w.shared) (cond (is_one_step c) (Add (w.shared + p) a ∷ []) (Load (w.shared + p) ∷ Bump (w.shared + p) a ∷ [])) [])
+    (cond (nat_lt p w.shared) (cond (is_one_step c) (Add (w.shared + p) a ∷ []) (Load (w.shared + p) ∷ Bump (w.shared + p) a ∷ [])) [])
 grow_adjoint_played w c t p a vs bs h = by_test (nat_lt p w.shared) refl
   where
     x : ℕ
@@ -139,7 +139,7 @@ grow_adjoint_played w c t p a vs bs h = by_test (nat_lt p w.shared) refl
 pub grow_value_played : (w : World) (one : Bool) (t : Tape) (p a : ℕ) (vs bs : List ℕ) → w.shared ≤ length vs
     → play (increment_value w one p a (local w.shared t vs bs)) (flat w.shared vs bs)
     ≡ played (local w.shared t (slice_set vs p (ring_add (slice_index vs p) a)) bs) (flat w.shared (slice_set vs p (ring_add (slice_index vs p) a)) bs)
-      (cond (nat_lt p w.shared) (cond one (Add p a ∷ []) (Load p ∷ Bump p a ∷ [])) [])
+    (cond (nat_lt p w.shared) (cond one (Add p a ∷ []) (Load p ∷ Bump p a ∷ [])) [])
 grow_value_played w one t p a vs bs h = by_test (nat_lt p w.shared) refl
   where
     x : ℕ

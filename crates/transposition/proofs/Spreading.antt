@@ -1,17 +1,16 @@
 -- What the increments of a list of occurrences do: the pairing grows by the sum of what they are worth.
-use Rattle.std.proofs.Common.{◌≡◌, ℕ, zero, suc, ◌+◌, ◌-◌, ◌*◌, ◌%◌, ◌<◌, ◌≤◌, List, [], ◌∷◌, ◌++◌, refl, ap, sym, ◌∙◌, subst, arith, length, map, take, drop, Bool, true, false, not, cond, Option, Some, None, Result, Ok, Err, inl, inr, ℤ}
-use Rattle.std.specs.Prelude.{◌⊎◌, slice_index, slice_set, nat_lt}
+use Rattle.std.proofs.Common.{◌≡◌, ℕ, ◌+◌, ◌*◌, List, [], ◌∷◌, ◌++◌, refl, ap, sym, ◌∙◌, subst, arith, length, map, Bool, true, false, cond, Ok, inl, inr}
+use Rattle.std.specs.Prelude.{slice_index, slice_set, nat_lt}
 use Rattle.std.proofs.lemmas.List.{length-set, length-map}
 use Rattle.ring_core.specs.Ring.{ring_add, ring_mul}
-use Rattle.pairing.specs.Ring.{big, Same}
-use Rattle.pairing.specs.Pair.{pair, live}
+use Rattle.pairing.specs.Ring.{Same}
+use Rattle.pairing.specs.Pair.{pair}
 use Rattle.pairing.proofs.Sames.{of_equal, same_sum}
 use Rattle.pairing.proofs.Pairs.{pair_grow, length_live, live_at}
-use Rattle.fl_ast.specs.Tree.{Expression, Designator, Condition}
+use Rattle.fl_ast.specs.Tree.{Expression, Condition}
 use Rattle.fl_types.specs.declared.access.AccessKind.TheVariants.{Read}
-use Rattle.operations.specs.declared.op.Op.{Op}
-use Rattle.operations.specs.declared.op.Op.TheVariants.{Load, Store, Bump, Add}
-use Rattle.operations.specs.Tree.{Tree, done, and_then, Played, play}
+use Rattle.operations.specs.declared.op.Op.TheVariants.{Load, Bump, Add}
+use Rattle.operations.specs.Tree.{done, and_then, Played, play}
 use Rattle.operations.proofs.Trees.{bind}
 use Rattle.meaning.specs.declared.value.Value.{Value}
 use Rattle.meaning.specs.Values.{as_dual, whole_numbers}
@@ -23,14 +22,14 @@ use Rattle.transposition.specs.Tapes.{Tape}
 use Rattle.transposition.specs.Worlds.{World, Local, name_at, is_one_step, increment_adjoint}
 use Rattle.transposition.specs.Reads.{value_tree, holds_tree, place_tree}
 use Rattle.transposition.specs.Spread.{Factor, operand, either, Occurrence, factor_tree, product_tree, with_sign, increment_one, spread}
-use Rattle.transposition.specs.Law.{Use, flat, local, Like, Fit, tangents, HasTouch, HasDifferentiatedRead, Cover, CoverAll}
+use Rattle.transposition.specs.Law.{Use, flat, local, Fit, tangents, HasTouch, HasDifferentiatedRead, CoverAll}
 use Rattle.transposition.specs.Needs.{NeedsFactor, NeedsFactors, NeedsOne, NeedsEach}
-use Rattle.transposition.proofs.Split.{before, played, grow_adjoint_played}
+use Rattle.transposition.proofs.Split.{grow_adjoint_played}
 use Rattle.transposition.proofs.Flats.{flat_value}
-use Rattle.transposition.proofs.Keys.{Stands, stands}
+use Rattle.transposition.proofs.Keys.{stands}
 use Rattle.transposition.proofs.Places.{tangent_here}
 use Rattle.transposition.proofs.Tangents.{worth}
-use Rattle.transposition.proofs.Reading.{TouchesIn, Scene, room, Got, Gets, got_then, got_done, got_bind, got_told, gets_ok, value_got, holds_got, place_got, Placed, cover_both, cover_adjoint}
+use Rattle.transposition.proofs.Reading.{TouchesIn, Scene, room, Got, got_then, got_done, got_bind, got_told, gets_ok, value_got, holds_got, place_got, Placed, cover_both, cover_adjoint}
 
 pub silent : (ts : Log) → TouchesIn silence ts
 silent ts k p h = absurd h
@@ -70,7 +69,7 @@ factor_got : (w : World) (u : Use) (s : Cells) (vs bs : List ℕ) (t : Tape) (ts
 factor_got w u s vs bs t ts h (operand e) x q k =
     let c = flat w.shared vs bs in
     let g : Got w ts c (play (value_tree e w (local w.shared t vs bs)) c) (flat_value k.v) (value_of e w.site s).log =
-        gets_ok w ts c flat_value _ _ (value_of e w.site s).out k.v k.out (value_got w u s vs bs t ts h e q) in
+    gets_ok w ts c flat_value _ _ (value_of e w.site s).out k.v k.out (value_got w u s vs bs t ts h e q) in
     let same-worth : (as_dual (flat_value k.v)).value ≡ x = flat_worth k.v ∙ sym k.worth in
     got_bind w ts c (value_tree e w (local w.shared t vs bs)) (λ v. done (as_dual v).value) (flat_value k.v) x (got_told w ts c _ _ _ k.told g) (rw same-worth (got_done w ts c x))
   where
@@ -83,7 +82,7 @@ factor_got w u s vs bs t ts h (operand e) x q k =
 factor_got w u s vs bs t ts h (either n m e) x q k =
     let c = flat w.shared vs bs in
     let g : Got w ts c (play (holds_tree e w (local w.shared t vs bs)) c) k.b (holds e w.site s).log =
-        gets_ok w ts c (λ (b : Bool). b) _ _ (holds e w.site s).out k.b k.out (holds_got w u s vs bs t ts h e q) in
+    gets_ok w ts c (λ (b : Bool). b) _ _ (holds e w.site s).out k.b k.out (holds_got w u s vs bs t ts h e q) in
     got_bind w ts c (holds_tree e w (local w.shared t vs bs)) (λ b. done (cond b n m)) k.b x (got_told w ts c _ _ _ k.told g) (rw k.worth (got_done w ts c (cond k.b n m)))
 
 pub product_got : (w : World) (u : Use) (s : Cells) (vs bs : List ℕ) (t : Tape) (ts : Log) → Scene w u s vs bs → (fs : List Factor) (a n : ℕ) → NeedsFactors u fs → Product w s ts fs a n
@@ -172,9 +171,10 @@ one_spreads w u s vs bs t ts a h o z q k =
       where
         by_tests : (b d : Bool) → nat_lt k.p w.shared ≡ b → is_one_step (w.choice o.place.name) ≡ d → CoverAll w ts (cond b (cond d (Add (w.shared + k.p) x ∷ []) (Load (w.shared + k.p) ∷ Bump (w.shared + k.p) x ∷ [])) [])
         by_tests true true f g = (cover_adjoint w ts (Add (w.shared + k.p) x) k.p refl f (λ e. (inl (k.read (accessed e)), ap (λ (y : List ℕ). is_one_step (w.choice y)) named ∙ g)), tt)
-        by_tests true false f g =
-            (cover_adjoint w ts (Load (w.shared + k.p)) k.p refl f (λ e. inr (inr (k.differentiated (accessed e), ap (λ (y : List ℕ). is_one_step (w.choice y)) named ∙ g))),
-            (cover_adjoint w ts (Bump (w.shared + k.p) x) k.p refl f (λ e. (k.differentiated (accessed e), ap (λ (y : List ℕ). is_one_step (w.choice y)) named ∙ g)), tt))
+        by_tests true false f g = (
+          cover_adjoint w ts (Load (w.shared + k.p)) k.p refl f (λ e. inr (inr (k.differentiated (accessed e), ap (λ (y : List ℕ). is_one_step (w.choice y)) named ∙ g))),
+          (cover_adjoint w ts (Bump (w.shared + k.p) x) k.p refl f (λ e. (k.differentiated (accessed e), ap (λ (y : List ℕ). is_one_step (w.choice y)) named ∙ g)), tt),
+        )
         by_tests false d f g = tt
 
 pub spreads : (w : World) (u : Use) (s : Cells) (vs bs : List ℕ) (t : Tape) (ts : Log) (a : ℕ) → Scene w u s vs bs → (os : List Occurrence) (z : ℕ) → NeedsEach u os → Sum w s ts a os z

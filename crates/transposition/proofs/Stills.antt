@@ -1,33 +1,29 @@
 -- An expression in which nothing moves has no tangent.
-use Rattle.std.proofs.Common.{◌≡◌, ℕ, zero, suc, ◌+◌, ◌*◌, List, [], ◌∷◌, refl, ap, sym, ◌∙◌, subst, arith, Bool, true, false, Option, Some, None, Result, Ok, Err, ℤ, pos}
+use Rattle.std.proofs.Common.{◌≡◌, ℕ, zero, suc, ◌+◌, ◌*◌, List, [], ◌∷◌, refl, ap, sym, ◌∙◌, subst, arith, Bool, true, false, Ok, pos}
 use Rattle.std.specs.Prelude.{int_le, int_lt, if◌then◌else◌}
 use Rattle.ring_core.specs.declared.ring.Width.{Width}
 use Rattle.ring_core.specs.Ring.{ring_pow}
-use Rattle.pairing.specs.Ring.{big, last, Same}
+use Rattle.pairing.specs.Ring.{last, Same}
 use Rattle.pairing.proofs.Sames.{of_equal, same_sum, same_product}
-use Rattle.fl_ast.specs.declared.kind.Kind.TheVariants as kind
 use Rattle.fl_ast.specs.declared.kind.BinOp.{BinOp}
 use Rattle.fl_ast.specs.declared.kind.BinOp.TheVariants.{Add, Sub, Mul, Div}
 use Rattle.fl_ast.specs.declared.kind.Fun.{Fun}
 use Rattle.fl_ast.specs.declared.kind.Fun.TheVariants.{Max, Min, Abs, Mod}
 use Rattle.fl_ast.specs.Tree.{Expression, literal, get, minus, binary, power, call, Expressions, no_expressions, expression}
-use Rattle.fl_types.specs.Increment.{Signed}
-use Rattle.meaning.specs.declared.value.Dual.{Dual}
 use Rattle.meaning.specs.declared.value.Value.{Value}
 use Rattle.meaning.specs.declared.value.Value.TheVariants.{Index, Ring}
-use Rattle.meaning.specs.Values.{Found, dual_pow, as_dual, rank, whole_numbers, literal_value, binary_result, negation_result, power_result, absolute_result, call_result}
-use Rattle.meaning.specs.Logs.{Traced, pure, lift, ◌>>=◌}
+use Rattle.meaning.specs.Values.{rank, whole_numbers, literal_value, binary_result, negation_result, power_result, absolute_result, call_result}
+use Rattle.meaning.specs.Logs.{lift, ◌>>=◌}
 use Rattle.meaning.specs.Sites.{Cells, place_of}
-use Rattle.meaning.specs.Expressions.{content, read, value_of, values_of}
-use Rattle.meaning.specs.Statements.{terms_of}
+use Rattle.meaning.specs.Expressions.{read, value_of, values_of}
 use Rattle.meaning.specs.Adjoints.{tangent_of}
-use Rattle.transposition.specs.Worlds.{World, name_at}
+use Rattle.transposition.specs.Worlds.{World}
 use Rattle.transposition.specs.Law.{Use, Fit}
-use Rattle.transposition.specs.Needs.{Quiet, QuietAll}
-use Rattle.transposition.specs.Sound.{Unmoved, UnmovedTerms}
+use Rattle.transposition.specs.Needs.{QuietAll}
+use Rattle.transposition.specs.Sound.{Unmoved}
 use Rattle.transposition.proofs.Keys.{stands}
 use Rattle.transposition.proofs.Bounds.{bound, read_inverted, listed}
-use Rattle.transposition.proofs.Tangents.{worth, moves, moves_is, Moves, moves_of, sum_of, binary_moves, negated_moves, power_none, power_some, power_index, literal_moves}
+use Rattle.transposition.proofs.Tangents.{worth, moves, moves_is, moves_of, sum_of, binary_moves, negated_moves, power_none, power_some, power_index, literal_moves}
 use Rattle.transposition.proofs.Calculus.{remainder_still}
 
 abbrev AllStill : List Value → Type 0

@@ -1,20 +1,20 @@
 -- The tangent of each operation, modulo 2^64.
-use Rattle.std.proofs.Common.{◌≡◌, ℕ, zero, suc, ◌+◌, ◌*◌, ◌%◌, ◌<◌, List, [], ◌∷◌, refl, ap, sym, ◌∙◌, subst, arith, Bool, true, false, not, cond, Some, Result, Ok, Err, ℤ, pos, negsuc}
-use Rattle.std.specs.Prelude.{int_le, int_lt, if◌then◌else◌, ◌+ℤ◌, ◌-ℤ◌, ◌*ℤ◌, neg_ℤ}
+use Rattle.std.proofs.Common.{◌≡◌, ℕ, suc, ◌+◌, ◌*◌, ◌%◌, refl, ap, sym, ◌∙◌, subst, arith, Bool, true, false, not, Some, Result, Ok, Err, ℤ, pos}
+use Rattle.std.specs.Prelude.{◌+ℤ◌, ◌-ℤ◌, ◌*ℤ◌, neg_ℤ}
 use Rattle.std.specs.Int.{int_pow}
 use Rattle.ring_core.specs.Index.{exact_index, index_div, index_rem}
 use Rattle.fl_ast.specs.declared.kind.Kind.{Kind}
 use Rattle.fl_ast.specs.declared.kind.Kind.TheVariants as kind
 use Rattle.fl_ast.specs.declared.kind.BinOp.{BinOp}
 use Rattle.fl_ast.specs.declared.kind.BinOp.TheVariants.{Add, Sub, Mul, Div}
-use Rattle.ring_core.specs.Ring.{ring_add, ring_sub, ring_mul, ring_neg, ring_pow}
+use Rattle.ring_core.specs.Ring.{ring_mul, ring_pow}
 use Rattle.ring_core.specs.declared.index.IndexTrap.{IndexTrap}
 use Rattle.pairing.specs.Ring.{big, last, Same, factor}
 use Rattle.pairing.proofs.Sames.{of_equal, same_sum, same_product, strip_add, strip_mul, strip_neg, strip_sub, sign_twice}
 use Rattle.meaning.specs.declared.value.Dual.{Dual}
 use Rattle.meaning.specs.declared.value.Value.{Value}
 use Rattle.meaning.specs.declared.value.Value.TheVariants.{Index, Ring}
-use Rattle.meaning.specs.Values.{Found, of_index, dual_add, dual_sub, dual_neg, dual_mul, dual_pow, as_dual, rank, literal_value, index_result, ring_result, binary_result, negation_result, power_result, larger_result, smaller_result, absolute_result, remainder}
+use Rattle.meaning.specs.Values.{Found, of_index, dual_pow, as_dual, literal_value, index_result, ring_result, binary_result, negation_result, power_result, remainder}
 use Rattle.meaning.specs.Adjoints.{tangent_of}
 use Rattle.meaning.proofs.Powers.{power_of_more}
 use Rattle.transposition.specs.Spread.{with_sign}

@@ -1,68 +1,54 @@
 -- Statements without parallel loops are undone, and the pairing is kept.
-use Rattle.std.proofs.Common.{◌≡◌, ◌≢◌, ℕ, zero, suc, ◌+◌, ◌*◌, ◌%◌, ◌<◌, ◌^◌, ◌==◌, List, [], ◌∷◌, ◌++◌, refl, ap, sym, ◌∙◌, subst, arith, length, Bool, true, false, not, ◌||◌, Option, Some, None, Result, Ok, Err, ℤ, pos, negsuc}
-use Rattle.std.specs.Prelude.{slice_set, bytes_eq, if◌then◌else◌, ◌+ℤ◌, ◌*ℤ◌}
+use Rattle.std.proofs.Common.{◌≡◌, ◌≢◌, ℕ, zero, suc, ◌+◌, ◌<◌, ◌^◌, ◌==◌, List, [], ◌++◌, refl, ap, sym, ◌∙◌, subst, arith, length, Bool, true, false, ◌||◌, Option, Some, None, Ok, Err, ℤ, pos}
+use Rattle.std.specs.Prelude.{slice_set, bytes_eq, if◌then◌else◌, ◌+ℤ◌}
 use Rattle.std.specs.Int.{w64, cast_unsigned}
 use Rattle.std.proofs.lemmas.Bool.{eqb-true, eq-eqb}
 use Rattle.std.proofs.lemmas.Slice.Eq.{bytes_eq-Decides}
 use Rattle.std.proofs.lemmas.List.{length-set}
-use Rattle.std.proofs.lemmas.Bool.Decides.{nat_tests}
-use Rattle.ring_core.specs.Index.{IsIndex, fits_index}
-use Rattle.pairing.specs.Ring.{Same}
-use Rattle.pairing.proofs.Sames.{of_equal, same_sum, same_product}
-use Rattle.fl_ast.specs.declared.kind.Kind.{Kind}
-use Rattle.fl_ast.specs.declared.kind.Kind.TheVariants as kind
-use Rattle.fl_ast.specs.declared.directive.Directive.{Directive}
-use Rattle.fl_ast.specs.Tree.{Expression, Designator, Statement, assignment, branch, loop, Statements, no_statements, statement, Arms, no_arms, arm, Condition}
-use Rattle.fl_types.specs.declared.access.AccessKind.{AccessKind}
-use Rattle.fl_types.specs.Increment.{Signed, increment_terms}
-use Rattle.fl_types.specs.Accesses.{increment_kind}
-use Rattle.meaning.specs.declared.value.Dual.{Dual}
+use Rattle.ring_core.specs.Index.{IsIndex}
+use Rattle.pairing.proofs.Sames.{of_equal}
+use Rattle.fl_ast.specs.Tree.{Expression, Designator, Statements, Arms, arm, Condition}
+use Rattle.fl_types.specs.Increment.{Signed}
 use Rattle.meaning.specs.declared.value.Value.{Value}
-use Rattle.meaning.specs.declared.value.Value.TheVariants.{Index, Ring}
+use Rattle.meaning.specs.declared.value.Value.TheVariants.{Index}
 use Rattle.meaning.specs.declared.value.Cause.{Cause}
 use Rattle.meaning.specs.declared.value.TrapAt.{TrapAt}
 use Rattle.meaning.specs.declared.value.IterationCount.{IterationCount}
 use Rattle.meaning.specs.Values.{whole_number}
-use Rattle.meaning.specs.Logs.{Log, Traced, pure, lift, after, inside, at_line, at_line_by, instance, turn, condition, taken, ◌>>=◌}
-use Rattle.meaning.specs.Sites.{Key, Cells, Site, place_of, kind_of}
-use Rattle.meaning.specs.Expressions.{content, value_of, holds}
-use Rattle.meaning.specs.Statements.{Run, with_log, assignment_by, turns_by, step_value, turns_of, value_at, set_at, set_log_at, turns, loop_words, one_turn, choice, in_arm, run, run_all, run_arms}
-use Rattle.meaning.specs.Adjoints.{tangent_of}
+use Rattle.meaning.specs.Logs.{Log, Traced, pure, lift, after, instance, taken, ◌>>=◌}
+use Rattle.meaning.specs.Sites.{Cells, Site}
+use Rattle.meaning.specs.Expressions.{content, value_of}
+use Rattle.meaning.specs.Statements.{Run, assignment_by, turns_by, step_value, turns_of, value_at, set_at, set_log_at, turns, choice, in_arm, run_all, run_arms}
 use Rattle.transposition.specs.Worlds.{World, name_at, in_turn}
-use Rattle.transposition.specs.Law.{Use, Fit, Like, Within, flat, local, tangents, Cover, CoverAll, Ends, Undoes}
-use Rattle.transposition.specs.Sound.{OptionLiterals, Literals, SoundVariable, SoundAssigned, scope_with, writes, writes_in, writes_in_arms, Sound, SoundAll, SoundArms}
-use Rattle.transposition.proofs.Keys.{Stands, stands}
-use Rattle.transposition.proofs.Places.{content_set_same, content_set_other, tangents_set}
-use Rattle.transposition.proofs.Tangents.{moves, moves_is}
+use Rattle.transposition.specs.Law.{Use, Fit, Like, Within, flat, local, Ends, Undoes}
+use Rattle.transposition.specs.Sound.{SoundVariable, SoundAssigned, scope_with}
+use Rattle.transposition.proofs.Keys.{stands}
+use Rattle.transposition.proofs.Places.{content_set_other}
 use Rattle.transposition.proofs.Bounds.{bound}
-use Rattle.transposition.proofs.Sizes.{below, Sized, value_sized, IsWhole, value_whole}
 use Rattle.transposition.proofs.Plain.{plain_undone, tangents_off}
 use Rattle.transposition.proofs.Increments.{increment_undone}
-
 use Rattle.std.specs.Ordering.{int_eq}
 use Rattle.std.specs.Prelude.{int_div, ◌-ℤ◌}
 use Rattle.store_core.specs.Bounds.{clipped}
-use Rattle.meaning.proofs.Variables.{variables_fit}
 use Rattle.meaning.specs.Sites.{in_turn as site_in_turn}
-use Rattle.transposition.proofs.Kept.{Keeps, keeps_itself, keeps_both, keeps_wider, fit_set, keeps_set, assigned_kept}
-
-use Rattle.std.proofs.Common.{◌-◌, ◌≤◌, inl, inr, take, drop}
-use Rattle.std.specs.Prelude.{◌⊎◌, slice_index, cond}
+use Rattle.transposition.proofs.Kept.{Keeps}
+use Rattle.std.proofs.Common.{◌-◌, inl, inr, take, drop}
+use Rattle.std.specs.Prelude.{slice_index, cond}
 use Rattle.std.proofs.lemmas.List.{get_or-set_same, get_or-set_other}
-use Rattle.meaning.specs.Logs.{both, within, single, pushes}
+use Rattle.meaning.specs.Logs.{both, within}
 use Rattle.meaning.specs.Sites.{word_of}
-use Rattle.operations.specs.Tree.{Tree, done, and_then, Played, play}
+use Rattle.operations.specs.Tree.{Tree, done, and_then, play}
 use Rattle.operations.proofs.Trees.{bind}
 use Rattle.pairing.specs.Pair.{pair}
-use Rattle.transposition.specs.Tapes.{Tape, word, tape_after, top, rest}
+use Rattle.transposition.specs.Tapes.{Tape, word, tape_after}
 use Rattle.transposition.specs.Worlds.{Local, with_value}
 use Rattle.transposition.specs.Reads.{place_or_zero}
-use Rattle.transposition.specs.Back.{turns_on, after_pop, assignment_back, turns_back, one_turn_back, loop_back, back, back_all, back_arms, with_variable_word as variable_set}
-use Rattle.transposition.proofs.Split.{set_own, own_kept, cells_kept}
+use Rattle.transposition.specs.Back.{turns_on, assignment_back, turns_back, one_turn_back, loop_back, back_all, back_arms, with_variable_word as variable_set}
+use Rattle.transposition.proofs.Split.{set_own, cells_kept}
 use Rattle.transposition.proofs.Flats.{read_back}
 use Rattle.transposition.proofs.Reading.{cover_both}
-use Rattle.transposition.proofs.Taping.{Wordless, wordless_bind, wordless, wordless_holds}
-use Rattle.transposition.proofs.Runs.{Lined, lined, TurnsRun, turns_run, fit_turn, fit_outside, variable_kept, turn_index, turn_out, noted_out, turns_kept}
+use Rattle.transposition.proofs.Taping.{Wordless, wordless_bind, wordless}
+use Rattle.transposition.proofs.Runs.{turns_kept}
 
 pub undone_both : (w : World) (u : Use) (ts : Log) (f g : Local → Tree Local) (t t1 t2 : Tape) (s s1 s2 : Cells) → Undoes w u ts f t t1 s s1 → Undoes w u ts g t1 t2 s1 s2 → Undoes w u ts (λ l. and_then (g l) f) t t2 s s2
 undone_both w u ts f g t t1 t2 s s1 s2 h k vs bs l wide long =
@@ -207,7 +193,7 @@ locals_same n t xs ys bs e = ap (λ (l : List ℕ). local_of t l bs) e
 
 pub turn_undone : (w : World) (u : Use) (ts : Log) (var : List ℕ) (first last : Expression) (step : Option Expression) (v : SoundVariable w u var first last step) (b : IterationCount) (k : ℕ) (body : World → Local → Tree Local) (t t2 : Tape) (s s2 : Cells)
     → length s ≡ length w.site.keys → (let z : ℤ = value_at b k in
-       (content s2 v.q ≡ Some (Index z)) × Undoes (in_turn w var) (scope_with var u) ts (body (in_turn w var)) t t2 (slice_set s v.q (Some (Index z))) s2)
+    (content s2 v.q ≡ Some (Index z)) × Undoes (in_turn w var) (scope_with var u) ts (body (in_turn w var)) t t2 (slice_set s v.q (Some (Index z))) s2)
     → Undoes w u ts (one_turn_back w var b body k) t t2 s s2
 turn_undone w u ts var first last step v b k body t t2 s s2 size h vs bs l wide long =
     let z : ℤ = value_at b k in
@@ -216,7 +202,7 @@ turn_undone w u ts var first last step v b k body t t2 s s2 size h vs bs l wide 
     let vs1 : List ℕ = slice_set vs v.q x in
     let a = h.1 vs1 bs (variable_like w u var first last step v z vs s2 (let i = st.there in omega arith) h.0 l) (length-set vs v.q x ∙ wide) long in
     let same-local : variable_set w var b k (local w.shared t2 vs bs) ≡ local w.shared t2 vs1 bs =
-        ap (λ (o : Option ℕ). with_value w (place_or_zero o) x (local w.shared t2 vs bs)) v.place ∙ locals_same w.shared t2 (slice_set (drop w.shared vs) (v.q - w.shared) x) (drop w.shared vs1) (drop w.shared bs) (set_own w.shared v.q x vs v.own) in
+    ap (λ (o : Option ℕ). with_value w (place_or_zero o) x (local w.shared t2 vs bs)) v.place ∙ locals_same w.shared t2 (slice_set (drop w.shared vs) (v.q - w.shared) x) (drop w.shared vs1) (drop w.shared bs) (set_own w.shared v.q x vs v.own) in
     let same-cells : flat w.shared vs bs ≡ flat w.shared vs1 bs = ap (λ (c : List ℕ). c ++ take w.shared bs) (cells_kept w.shared v.q x vs v.own) in
     rw (same-local, same-cells) (record {
       vs2 = a.vs2;

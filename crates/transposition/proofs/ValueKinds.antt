@@ -1,5 +1,5 @@
 -- The kind of an expression's value, and what comparisons of values of one kind are.
-use Rattle.std.proofs.Common.{◌≡◌, ℕ, zero, suc, List, [], ◌∷◌, refl, ap, sym, ◌∙◌, subst, Bool, true, false, ◌||◌, Option, Some, None, Result, Ok, Err, ℤ, pos}
+use Rattle.std.proofs.Common.{◌≡◌, ℕ, List, [], ◌∷◌, refl, ap, sym, ◌∙◌, subst, Bool, true, false, ◌||◌, Result, Ok, Err, ℤ, pos}
 use Rattle.std.specs.Prelude.{int_le, int_lt, if◌then◌else◌, ◌+ℤ◌, ◌-ℤ◌, ◌*ℤ◌, neg_ℤ}
 use Rattle.std.specs.Int.{int_pow}
 use Rattle.fl_ast.specs.declared.kind.Kind.{Kind}
@@ -17,15 +17,15 @@ use Rattle.ring_core.specs.Index.{exact_index, index_div, index_rem}
 use Rattle.meaning.specs.declared.value.Dual.{Dual}
 use Rattle.meaning.specs.declared.value.Value.{Value}
 use Rattle.meaning.specs.declared.value.Value.TheVariants.{Index, Ring}
-use Rattle.meaning.specs.Values.{Found, of_index, as_dual, signed_at, rank, whole_numbers, literal_value, index_result, ring_result, binary_result, negation_result, power_result, larger_result, smaller_result, absolute_result, remainder, on_one, on_two, call_result, relates}
+use Rattle.meaning.specs.Values.{Found, of_index, as_dual, signed_at, rank, whole_numbers, literal_value, index_result, ring_result, binary_result, negation_result, power_result, larger_result, smaller_result, absolute_result, remainder, call_result, relates}
 use Rattle.meaning.specs.Logs.{lift, ◌>>=◌}
-use Rattle.meaning.specs.Sites.{Cells, Site, place_of, kind_of}
-use Rattle.meaning.specs.Expressions.{content, read, value_of, values_of}
-use Rattle.transposition.specs.Worlds.{World, name_at}
+use Rattle.meaning.specs.Sites.{Cells, place_of, kind_of}
+use Rattle.meaning.specs.Expressions.{read, value_of, values_of}
+use Rattle.transposition.specs.Worlds.{World}
 use Rattle.transposition.specs.Law.{Use, Fit, HasKind}
-use Rattle.transposition.specs.Needs.{is_data, has_data, PairOfOneKind, ArgumentsOfOneKind, Kinded, KindedAll}
-use Rattle.transposition.proofs.Keys.{Stands, stands}
-use Rattle.transposition.proofs.Bounds.{Bound, bound, ReadAt, read_inverted, Listed, listed}
+use Rattle.transposition.specs.Needs.{is_data, has_data, PairOfOneKind, Kinded, KindedAll}
+use Rattle.transposition.proofs.Keys.{stands}
+use Rattle.transposition.proofs.Bounds.{bound, read_inverted, listed}
 
 abbrev pub is_ring : Value → Bool
 is_ring (Index z) = false

@@ -1,77 +1,46 @@
 -- The whole language: what runs keep, and that they are undone.
-use Rattle.std.proofs.Common.{◌≡◌, ◌≢◌, ℕ, zero, suc, ◌+◌, ◌*◌, ◌%◌, ◌<◌, ◌^◌, ◌==◌, List, [], ◌∷◌, ◌++◌, refl, ap, sym, ◌∙◌, subst, arith, length, Bool, true, false, not, ◌||◌, Option, Some, None, Result, Ok, Err, ℤ, pos, negsuc}
-use Rattle.std.specs.Prelude.{slice_set, bytes_eq, if◌then◌else◌, ◌+ℤ◌, ◌*ℤ◌}
+use Rattle.std.proofs.Common.{◌≡◌, ℕ, zero, suc, ◌+◌, ◌<◌, ◌^◌, List, [], ap, sym, ◌∙◌, subst, arith, Bool, true, false, ◌||◌, Option, Some, None, Ok, ℤ, pos}
+use Rattle.std.specs.Prelude.{slice_set, bytes_eq, if◌then◌else◌, ◌+ℤ◌}
 use Rattle.std.specs.Int.{w64, cast_unsigned}
-use Rattle.std.proofs.lemmas.Bool.{eqb-true, eq-eqb}
-use Rattle.std.proofs.lemmas.Slice.Eq.{bytes_eq-Decides}
-use Rattle.std.proofs.lemmas.List.{length-set}
-use Rattle.std.proofs.lemmas.Bool.Decides.{nat_tests}
-use Rattle.ring_core.specs.Index.{IsIndex, fits_index}
-use Rattle.pairing.specs.Ring.{Same}
-use Rattle.pairing.proofs.Sames.{of_equal, same_sum, same_product}
-use Rattle.fl_ast.specs.declared.kind.Kind.{Kind}
-use Rattle.fl_ast.specs.declared.kind.Kind.TheVariants as kind
+use Rattle.ring_core.specs.Index.{IsIndex}
 use Rattle.fl_ast.specs.declared.directive.Directive.{Directive}
-use Rattle.fl_ast.specs.Tree.{Expression, Designator, Statement, assignment, branch, loop, Statements, no_statements, statement, Arms, no_arms, arm, Condition}
-use Rattle.fl_types.specs.declared.access.AccessKind.{AccessKind}
-use Rattle.fl_types.specs.Increment.{Signed, increment_terms}
-use Rattle.fl_types.specs.Accesses.{increment_kind}
-use Rattle.meaning.specs.declared.value.Dual.{Dual}
+use Rattle.fl_ast.specs.Tree.{Expression, Statement, assignment, branch, loop, Statements, no_statements, statement, Arms, no_arms, arm}
+use Rattle.fl_types.specs.Increment.{increment_terms}
 use Rattle.meaning.specs.declared.value.Value.{Value}
-use Rattle.meaning.specs.declared.value.Value.TheVariants.{Index, Ring}
-use Rattle.meaning.specs.declared.value.Cause.{Cause}
+use Rattle.meaning.specs.declared.value.Value.TheVariants.{Index}
 use Rattle.meaning.specs.declared.value.TrapAt.{TrapAt}
 use Rattle.meaning.specs.declared.value.IterationCount.{IterationCount}
-use Rattle.meaning.specs.Values.{whole_number}
-use Rattle.meaning.specs.Logs.{Log, Traced, pure, lift, after, inside, at_line, at_line_by, instance, turn, condition, taken, ◌>>=◌}
-use Rattle.meaning.specs.Sites.{Key, Cells, Site, place_of, kind_of}
-use Rattle.meaning.specs.Expressions.{content, value_of, holds}
-use Rattle.meaning.specs.Statements.{Run, with_log, assignment_by, turns_by, step_value, turns_of, value_at, set_at, set_log_at, turns, loop_words, one_turn, run_turns, Heads, iterations, words_of_all, heads_of, run_parallel, choice, in_arm, run, run_all, run_inner, run_arms}
-use Rattle.meaning.specs.Adjoints.{tangent_of}
-use Rattle.transposition.specs.Worlds.{World, name_at, in_turn, in_iteration}
-use Rattle.transposition.specs.Law.{Use, Fit, Like, Within, flat, local, tangents, Cover, CoverAll, Ends, Undoes}
-use Rattle.transposition.specs.Sound.{OptionLiterals, Literals, SoundVariable, SoundAssigned, scope_with, writes, writes_in, writes_in_arms, arm_count, Sound, SoundAll, SoundArms, SoundInner, SoundWithin}
-use Rattle.transposition.proofs.Keys.{Stands, stands}
-use Rattle.transposition.proofs.Places.{content_set_same, content_set_other, tangents_set}
-use Rattle.transposition.proofs.Tangents.{moves, moves_is}
+use Rattle.meaning.specs.Logs.{Log, Traced, inside, at_line, condition, ◌>>=◌}
+use Rattle.meaning.specs.Sites.{Cells, Site, place_of}
+use Rattle.meaning.specs.Expressions.{content, holds}
+use Rattle.meaning.specs.Statements.{Run, with_log, assignment_by, turns_of, value_at, set_at, turns, loop_words, one_turn, run_turns, Heads, iterations, words_of_all, heads_of, run_parallel, choice, in_arm, run, run_all, run_inner, run_arms}
+use Rattle.transposition.specs.Worlds.{World, in_turn, in_iteration}
+use Rattle.transposition.specs.Law.{Use, Fit, Within, Undoes}
+use Rattle.transposition.specs.Sound.{scope_with, writes, writes_in, writes_in_arms, arm_count, Sound, SoundAll, SoundArms, SoundInner, SoundWithin}
+use Rattle.transposition.proofs.Keys.{stands}
+use Rattle.transposition.proofs.Places.{content_set_same}
 use Rattle.transposition.proofs.Bounds.{bound}
-use Rattle.transposition.proofs.Sizes.{below, Sized, value_sized, IsWhole, value_whole}
-use Rattle.transposition.proofs.Plain.{plain_undone, tangents_off}
-use Rattle.transposition.proofs.Increments.{increment_undone}
-
-use Rattle.std.specs.Ordering.{int_eq}
 use Rattle.std.specs.Prelude.{int_div, ◌-ℤ◌}
 use Rattle.store_core.specs.Bounds.{clipped}
 use Rattle.meaning.proofs.Variables.{variables_fit}
 use Rattle.meaning.specs.Sites.{in_turn as site_in_turn}
-use Rattle.transposition.proofs.Kept.{Keeps, keeps_itself, keeps_both, keeps_wider, fit_set, keeps_set, assigned_kept}
-
-use Rattle.std.proofs.Common.{◌-◌, ◌≤◌, inl, inr, take, drop}
-use Rattle.std.specs.Prelude.{◌⊎◌, slice_index}
-use Rattle.std.proofs.lemmas.List.{get_or-set_same, get_or-set_other}
+use Rattle.transposition.proofs.Kept.{Keeps, keeps_itself, keeps_both, keeps_wider, assigned_kept}
+use Rattle.std.proofs.Common.{inr}
 use Rattle.meaning.specs.Logs.{both, within, single, pushes, ends, rounds}
-use Rattle.meaning.specs.Sites.{word_of}
-use Rattle.operations.specs.Tree.{Tree, done, and_then, Played, play}
-use Rattle.operations.proofs.Trees.{bind}
-use Rattle.pairing.specs.Pair.{pair}
-use Rattle.transposition.specs.Tapes.{Tape, word, many, tape_after, iteration_tapes, top, rest}
-use Rattle.transposition.specs.Worlds.{Local, with_value}
-use Rattle.transposition.specs.Reads.{place_or_zero}
-use Rattle.transposition.specs.Back.{assignment_back, turns_back, one_turn_back, loop_back, parallel_back, back, back_all, back_arms}
-use Rattle.transposition.proofs.Split.{set_own, own_kept, cells_kept}
-use Rattle.transposition.proofs.Flats.{read_back}
-use Rattle.transposition.proofs.Reading.{cover_both}
-use Rattle.transposition.proofs.Taping.{Wordless, wordless_bind, wordless, wordless_holds}
-use Rattle.transposition.proofs.Runs.{Lined, lined, TurnsRun, turns_run, fit_turn, fit_outside, variable_kept, turn_index, turn_out, noted_out, turns_kept}
-
+use Rattle.operations.specs.Tree.{Tree}
+use Rattle.transposition.specs.Tapes.{Tape, word, tape_after, iteration_tapes}
+use Rattle.transposition.specs.Worlds.{Local}
+use Rattle.transposition.specs.Back.{assignment_back, turns_back, one_turn_back, loop_back, parallel_back, back, back_all}
+use Rattle.transposition.proofs.Taping.{wordless_holds}
+use Rattle.transposition.proofs.Runs.{lined, turns_run, fit_turn, fit_outside, variable_kept, turn_index, turn_out, noted_out, turns_kept}
 use Rattle.fl_types.specs.Sharing.{has_name}
 use Rattle.std.specs.Prelude.{cond}
 use Rattle.transposition.specs.Calms.{IsCalm, IsCalmAll, IsCalmArms, IsFlat, AreFlat, AreFlatArms}
-use Rattle.transposition.proofs.Runs.{or_first, or_second}
+use Rattle.transposition.proofs.Runs.{or_first}
 use Rattle.transposition.proofs.Undone.{undone_both, undone_none, undone_tape, within_left, within_right, within_instance, within_same, assigned_undone, turns_wordless, arm_word, turn_undone, within_taken, arm_moved, arm_chosen, words_undone, ArmUndone, turn_told}
 use Rattle.transposition.proofs.Iterations.{KeptBody, UndoneBody, iteration_run}
 use Rattle.transposition.proofs.Parallel.{iteration_kept, loop_tape, parallel_undone}
-use Rattle.transposition.proofs.Heads.{HeadsRun, heads_run, names_set, all_index}
+use Rattle.transposition.proofs.Heads.{heads_run, names_set, all_index}
 use Rattle.transposition.proofs.Nesting.{body_run, body_back}
 use Rattle.fl_types.specs.Nests.{Head, is_nest, further_head, iteration_body, inner_body, statements_in}
 
@@ -83,7 +52,7 @@ record ParallelRun (w : World) (line : ℕ) (d : Head) (directive : Directive) (
   pub ran : (turns (iterations heads) (iteration_run w directive d.var body heads) s).out ≡ Ok last
   pub last_is : last ≡ s2
   pub log : (heads_of d (further_head directive body) w.site s >>= (λ heads. run_parallel line directive d.var body (run_all (iteration_body directive body)) w.site heads s)).log
-    ≡ both (heads_of d (further_head directive body) w.site s).log (both (within rounds (turns (iterations heads) (iteration_run w directive d.var body heads) s).log) (both (single (ends line)) (words_of_all heads)))
+      ≡ both (heads_of d (further_head directive body) w.site s).log (both (within rounds (turns (iterations heads) (iteration_run w directive d.var body heads) s).log) (both (single (ends line)) (words_of_all heads)))
 
 parallel_parts : (w : World) (line : ℕ) (d : Head) (directive : Directive) (body : Statements) (s s2 : Cells) → (heads_of d (further_head directive body) w.site s >>= (λ heads. run_parallel line directive d.var body (run_all (iteration_body directive body)) w.site heads s)).out ≡ Ok s2 → ParallelRun w line d directive body s s2
 parallel_parts w line d directive body s s2 h =
@@ -133,10 +102,10 @@ mutual
       subst (λ (x : Cells). Keeps w u (λ y. bytes_eq y var || writes_in y body) s x) e
       (turns_kept w u (λ y. bytes_eq y var || writes_in y body) b.a.count (one_turn w.site var b.a (run_all body))
       (λ k i s s2 fit h.
-        let o = turn_out w u var first last step b.a (run_all body) k s sound.0 s2 h in
-        let m = variable_kept w u var first last step s (value_at b.a k) sound.0 fit (turn_index w s first last step b.a k (record { low = t.low; high = t.high; by = t.by; count = t.count }) i) in
-        let d = kept_all body (in_turn w var) (scope_with var u) (slice_set s sound.0.q (Some (Index (value_at b.a k)))) s2 (fit_turn w u var _ m.fit) sound.2 o in
-        keeps_both w u (λ y. bytes_eq y var) (λ y. writes_in y body) s (slice_set s sound.0.q (Some (Index (value_at b.a k)))) s2 m (record { fit = fit_outside w u var s2 d.fit; same = d.same }))
+      let o = turn_out w u var first last step b.a (run_all body) k s sound.0 s2 h in
+      let m = variable_kept w u var first last step s (value_at b.a k) sound.0 fit (turn_index w s first last step b.a k (record { low = t.low; high = t.high; by = t.by; count = t.count }) i) in
+      let d = kept_all body (in_turn w var) (scope_with var u) (slice_set s sound.0.q (Some (Index (value_at b.a k)))) s2 (fit_turn w u var _ m.fit) sound.2 o in
+      keeps_both w u (λ y. bytes_eq y var) (λ y. writes_in y body) s (slice_set s sound.0.q (Some (Index (value_at b.a k)))) s2 m (record { fit = fit_outside w u var s2 d.fit; same = d.same }))
       s c.a fit c.first)
   kept (loop line number (Some directive) var first last step body) w u s s2 fit sound h =
       let d : Head = record { line = line; var = var; first = first; last = last; step = step } in
@@ -145,10 +114,10 @@ mutual
       subst (λ (x : Cells). Keeps w u (λ y. bytes_eq y var || (has_name y directive.privates || writes_in y body)) s x) p.last_is
       (turns_kept w u (λ y. bytes_eq y var || (has_name y directive.privates || writes_in y body)) (iterations p.heads) (iteration_run w directive var body p.heads)
       (λ k i s s2 fit h. iteration_kept w u sound.0 number directive var body sound.1
-        (kept_body (is_nest directive body) body (in_iteration w number directive var body) sound.0 sound.4
-          (λ q s s2 fit h. kept_all body (in_iteration w number directive var body) sound.0 s s2 fit q h)
-          (λ q s s2 fit h. kept_inner body (in_iteration w number directive var body) sound.0 s s2 fit q h))
-        p.heads k s s2 (names_set p.heads k ∙ r.names) (all_index p.heads k r.counted i) fit h)
+      (kept_body (is_nest directive body) body (in_iteration w number directive var body) sound.0 sound.4
+      (λ q s s2 fit h. kept_all body (in_iteration w number directive var body) sound.0 s s2 fit q h)
+      (λ q s s2 fit h. kept_inner body (in_iteration w number directive var body) sound.0 s s2 fit q h))
+      p.heads k s s2 (names_set p.heads k ∙ r.names) (all_index p.heads k r.counted i) fit h)
       s p.last fit p.ran)
 
   pub kept_all : (xs : Statements) (w : World) (u : Use) (s s2 : Cells) → Fit w u s → SoundAll w u xs → (run_all xs w.site s).out ≡ Ok s2 → Keeps w u (λ y. writes_in y xs) s s2
@@ -178,8 +147,8 @@ mutual
       let b = bound (inside (condition m) (at_line line (holds test1 w.site s))) (λ p. choice p (in_arm m (run_all body w.site)) (run_arms arms line (m + 1) other w.site) s) s2 h in
       by_test b.a b.second
       (λ g. let c = bound (run_all body w.site s) (with_log (single (pushes (Some (Index (pos m)))))) s2 g in
-        let e : c.a ≡ s2 = noted_out (single (pushes (Some (Index (pos m))))) c.a s2 c.second in
-        subst (λ (x : Cells). Keeps w u (λ y. writes_in y body) s x) e (kept_all body w u s c.a fit sound.0 c.first))
+      let e : c.a ≡ s2 = noted_out (single (pushes (Some (Index (pos m))))) c.a s2 c.second in
+      subst (λ (x : Cells). Keeps w u (λ y. writes_in y body) s x) e (kept_all body w u s c.a fit sound.0 c.first))
       (λ g. kept_arms arms line (m + 1) other test w u s s2 fit sound.1 k g)
     where
       by_test : (t : Bool) → (choice t (in_arm m (run_all body w.site)) (run_arms arms line (m + 1) other w.site) s).out ≡ Ok s2
@@ -282,15 +251,15 @@ mutual
       let in-turns = within_left w.active _ _ _ ts c.log in-loop in
       let tape = tape_after (turns n f s).log t in
       let turned : Undoes w u ts (turns_back n (one_turn_back w var b.a (back_all body))) t tape s c.a =
-          turns_undone_from w u ts (λ y. bytes_eq y var || writes_in y body) n f (one_turn_back w var b.a (back_all body)) s
-          (λ k i s s2 fit h. turn_kept line number var first last step body w u s s2 b.a k i fit sound tr.low tr.high tr.count h (λ s s2 fit h. kept_all body (in_turn w var) (scope_with var u) s s2 fit sound.2 h))
-          (λ k i s1 s2 t met fit ins h. turn_step line number var first last step body w u ts s1 s2 t b.a k i fit sound tr.low tr.high tr.count ins h (λ s s2 fit h. kept_all body (in_turn w var) (scope_with var u) s s2 fit sound.2 h)
-            (λ q pl ts s2 t fit ins h. undone_all body (in_turn w var) (scope_with var u) ts _ s2 t fit sound.2 (calm_at body (in_turn w var) _ _ s1 pl (calm b.a l.out k i s1 met)) ins h))
-          c.a t fit in-turns c.first in
+      turns_undone_from w u ts (λ y. bytes_eq y var || writes_in y body) n f (one_turn_back w var b.a (back_all body)) s
+      (λ k i s s2 fit h. turn_kept line number var first last step body w u s s2 b.a k i fit sound tr.low tr.high tr.count h (λ s s2 fit h. kept_all body (in_turn w var) (scope_with var u) s s2 fit sound.2 h))
+      (λ k i s1 s2 t met fit ins h. turn_step line number var first last step body w u ts s1 s2 t b.a k i fit sound tr.low tr.high tr.count ins h (λ s s2 fit h. kept_all body (in_turn w var) (scope_with var u) s s2 fit sound.2 h)
+      (λ q pl ts s2 t fit ins h. undone_all body (in_turn w var) (scope_with var u) ts _ s2 t fit sound.2 (calm_at body (in_turn w var) _ _ s1 pl (calm b.a l.out k i s1 met)) ins h))
+      c.a t fit in-turns c.first in
       let counted : Undoes w u ts (turns_back n (one_turn_back w var b.a (back_all body))) t tape s s2 =
-          subst (λ (x : Cells). Undoes w u ts (turns_back n (one_turn_back w var b.a (back_all body))) t tape s x) e turned in
+      subst (λ (x : Cells). Undoes w u ts (turns_back n (one_turn_back w var b.a (back_all body))) t tape s x) e turned in
       let words : Undoes w u ts (loop_back w var (back_all body)) t (word (cast_unsigned w64 b.a.step) (word (cast_unsigned w64 b.a.last) (word (cast_unsigned w64 b.a.first) tape))) s s2 =
-          words_undone w u ts var body b.a tape t s s2 tr.low tr.high tr.by tr.count counted in
+      words_undone w u ts var body b.a tape t s s2 tr.low tr.high tr.by tr.count counted in
       undone_tape w u ts (back (loop line number None var first last step body) w) t _ _ s s2
       (sym (ap (λ (m : Log). tape_after m t) b.log ∙ (ap (λ (m : Log). tape_after m (tape_after (at_line line (turns_of first last step w.site s)).log t)) c.log
       ∙ ap (λ (x : Tape). tape_after (loop_words b.a) (tape_after (turns n f s).log x)) (ap (λ (m : Log). tape_after m t) l.log ∙ turns_wordless first last step w.site s t)))) words
@@ -302,12 +271,12 @@ mutual
       let n = iterations p.heads in
       let f = iteration_run w directive var body p.heads in
       let words : Undoes w u ts (parallel_back w number directive var body (back_all (iteration_body directive body))) t (loop_tape p.heads (iteration_tapes (turns n f s).log) t) s s2 =
-          λ vs bs lk wide long. (parallel_undone w u sound.0 ts number directive var body sound.1
-            (kept_body (is_nest directive body) body v sound.0 sound.4 (λ q s s2 fit h. kept_all body v sound.0 s s2 fit q h) (λ q s s2 fit h. kept_inner body v sound.0 s s2 fit q h))
-            (sound_undone (is_nest directive body) body v sound.0 sound.4
-              (λ q s ts s2 t fit ins h. undone_all body v sound.0 ts s s2 t fit q (flat_calm body v s sound.5) ins h)
-              (λ q s ts s2 t fit ins h. undone_inner body v sound.0 ts s s2 t fit q sound.5 ins h))
-            p.heads r.names r.counted s s2 fit (p.ran ∙ ap (λ (x : Cells). Ok x) p.last_is) (calm p.heads p.counts) t vs bs lk wide long).ends in
+      λ vs bs lk wide long. (parallel_undone w u sound.0 ts number directive var body sound.1
+      (kept_body (is_nest directive body) body v sound.0 sound.4 (λ q s s2 fit h. kept_all body v sound.0 s s2 fit q h) (λ q s s2 fit h. kept_inner body v sound.0 s s2 fit q h))
+      (sound_undone (is_nest directive body) body v sound.0 sound.4
+      (λ q s ts s2 t fit ins h. undone_all body v sound.0 ts s s2 t fit q (flat_calm body v s sound.5) ins h)
+      (λ q s ts s2 t fit ins h. undone_inner body v sound.0 ts s s2 t fit q sound.5 ins h))
+      p.heads r.names r.counted s s2 fit (p.ran ∙ ap (λ (x : Cells). Ok x) p.last_is) (calm p.heads p.counts) t vs bs lk wide long).ends in
       undone_tape w u ts (back (loop line number (Some directive) var first last step body) w) t (loop_tape p.heads (iteration_tapes (turns n f s).log) t) _ s s2
       (sym (ap (λ (x : Traced TrapAt Cells). tape_after x.log t) (by_body w line d directive body s) ∙ (ap (λ (m : Log). tape_after m t) p.log
       ∙ ap (λ (x : Tape). loop_tape p.heads (iteration_tapes (turns n f s).log) x) (r.quiet t))))
@@ -352,16 +321,16 @@ mutual
       let l = lined line (holds test w.site s) b.a b.first in
       let quiet : tape_after (within (condition m) (at_line line (holds test w.site s)).log) t ≡ t = ap (λ (x : Log). tape_after x t) l.log ∙ wordless_holds test w.site s t in
       let tape-is : tape_after (run_arms (arm test body arms) line m (run_all others) w.site s).log t ≡ tape_after (choice b.a (in_arm m (run_all body w.site)) (run_arms arms line (m + 1) (run_all others) w.site) s).log t =
-          ap (λ (x : Log). tape_after x t) b.log ∙ ap (tape_after (choice b.a (in_arm m (run_all body w.site)) (run_arms arms line (m + 1) (run_all others) w.site) s).log) quiet in
+      ap (λ (x : Log). tape_after x t) b.log ∙ ap (tape_after (choice b.a (in_arm m (run_all body w.site)) (run_arms arms line (m + 1) (run_all others) w.site) s).log) quiet in
       arm_moved w u ts (arm test body arms) (back_all others) m t _ _ s s2 (sym tape-is)
       (arm_chosen w u ts test body arms line m (run_all others) (back_all others) t s s2 b.a b.second (within_right w.active _ _ _ ts b.log ins)
       (calm b.a l.out)
       (λ q i g. let c = bound (run_all body w.site s) (with_log (single (pushes (Some (Index (pos m)))))) s2 g in
-        let e : c.a ≡ s2 = noted_out (single (pushes (Some (Index (pos m))))) c.a s2 c.second in
-        record {
-          k = 0;
-          body = tape_after (run_all body w.site s).log t;
-          tape = ap (λ (x : Log). tape_after x t) c.log ∙ ap (λ (i : ℕ). word i (tape_after (run_all body w.site s).log t)) (arm_word m (omega arith) ∙ omega arith);
-          undone = subst (λ (x : Cells). Undoes w u ts (back_all body w) t (tape_after (run_all body w.site s).log t) s x) e (undone_all body w u ts s c.a t fit sound.0 q (within_left w.active _ _ _ ts c.log (within_taken w.active m _ ts i)) c.first);
-        })
+      let e : c.a ≡ s2 = noted_out (single (pushes (Some (Index (pos m))))) c.a s2 c.second in
+      record {
+        k = 0;
+        body = tape_after (run_all body w.site s).log t;
+        tape = ap (λ (x : Log). tape_after x t) c.log ∙ ap (λ (i : ℕ). word i (tape_after (run_all body w.site s).log t)) (arm_word m (omega arith) ∙ omega arith);
+        undone = subst (λ (x : Cells). Undoes w u ts (back_all body w) t (tape_after (run_all body w.site s).log t) s x) e (undone_all body w u ts s c.a t fit sound.0 q (within_left w.active _ _ _ ts c.log (within_taken w.active m _ ts i)) c.first);
+      })
       (λ q i g. arms_undone arms line (m + 1) others w u ts s s2 t fit (omega arith) sound.1 q k i g))

@@ -1,2 +1,6 @@
-//! The law of the reverse part.
+//! The reverse part of a program is its transposed derivative.
 #![tactic(auto)]
+
+mod laws;
+
+pub use laws::reverse_is_transposed;
