@@ -27,3 +27,5 @@ pub mod Iterations
 pub mod Parallel
 pub mod Whole
 pub mod Transposed
+mod Premises
+mod Squares
