@@ -1,25 +1,28 @@
 -- Operations that are covered by touches without a conflict are clear of each other.
 use Rattle.std.proofs.Common.{◌≡◌, ℕ, ◌-◌, ◌<◌, List, [], ◌∷◌, refl, sym, ◌∙◌, subst, Bool, true, false, cond, inl, inr}
-use Rattle.std.specs.Prelude.{◌⊎◌, nat_lt}
+use Rattle.std.specs.Prelude.{nat_lt}
 use Rattle.fl_types.specs.declared.access.AccessKind.{AccessKind}
 use Rattle.fl_types.specs.declared.access.AccessKind.TheVariants.{Read, Write, Update}
-use Rattle.fl_types.specs.declared.choice.Choice.TheVariants.{Reduction}
+use Rattle.fl_types.specs.declared.choice.Choice.{Choice}
+use Rattle.fl_types.specs.declared.choice.Choice.TheVariants.{Shared, Atomic, Reduction}
 use Rattle.operations.specs.declared.op.Op.{Op}
 use Rattle.operations.specs.declared.op.Op.TheVariants.{Load, Store, Bump, Add}
 use Rattle.operations.specs.Ops.{cell_of, may_meet, Clear, ClearAll, Apart}
 use Rattle.meaning.specs.Logs.{Log, silence, single, touched, sets, both, within, instance, right_side, rounds, turn, iteration, condition, taken}
 use Rattle.meaning.specs.Conflicts.{clashes}
-use Rattle.transposition.specs.Worlds.{World, name_at}
+use Rattle.transposition.specs.Worlds.{World, is_reduction, name_at}
 use Rattle.transposition.specs.Law.{HasTouch, HasDifferentiatedRead, CoverAt, place_of_cell, Cover, CoverAll, Calm}
 
 clash : (w : World) (ts us : Log) → Calm w ts us → (k j : AccessKind) (p : ℕ) → clashes k j ≡ true → HasTouch k p ts → HasTouch j p us → ⊥
 clash w ts us n k j p e h i = let f : true ≡ false = sym e ∙ n.kinds k j p h i in cc
 
-only : (w : World) (ts us : Log) → Calm w ts us → (k : AccessKind) (p : ℕ) → clashes k Read ≡ true → w.choice (name_at w.site.keys p) ≡ Reduction → HasTouch k p ts ⊎ HasTouch k p us → ⊥
-only w ts us n k p e r h = let f : true ≡ false = sym e ∙ n.only k p r h in cc
-
 two_ways : (b : Bool) → b ≡ false → b ≡ true → ⊥
 two_ways b h k = let f : true ≡ false = sym k ∙ h in cc
+
+reduced : (c : Choice) → c ≡ Reduction → is_reduction c ≡ false → ⊥
+reduced Reduction e h = cc
+reduced Shared e h = cc
+reduced Atomic e h = cc
 
 read_by : (b : Bool) (p : ℕ) (l : Log) → cond b (HasTouch Read p l) ⊥ → HasTouch Read p l
 read_by true p l h = h
@@ -66,40 +69,40 @@ values_clear w ts us n c q (Add a x) (Add b y) h k m = cc
 
 adjoints_clear : (w : World) (ts us : Log) → Calm w ts us → (c q : ℕ) (o v : Op) → CoverAt w ts false c q o → CoverAt w us false c q v → may_meet o v ≡ false → ⊥
 adjoints_clear w ts us n c q (Load a) (Load b) h k m = cc
-adjoints_clear w ts us n c q (Load a) (Store b y) (inl h) k m = clash w ts us n Write Write q refl h k
-adjoints_clear w ts us n c q (Load a) (Store b y) (inr (inl h)) k m = clash w ts us n Update Write q refl h k
-adjoints_clear w ts us n c q (Load a) (Store b y) (inr (inr (h, hs))) k m = clash w ts us n Read Write q refl (read_of w q ts h) k
-adjoints_clear w ts us n c q (Load a) (Bump b y) (inl h) (k, ks) m = clash w ts us n Write Read q refl h (read_of w q us k)
-adjoints_clear w ts us n c q (Load a) (Bump b y) (inr (inl h)) (k, ks) m = clash w ts us n Update Read q refl h (read_of w q us k)
-adjoints_clear w ts us n c q (Load a) (Bump b y) (inr (inr (h, hs))) (k, ks) m = n.shared q hs h k
-adjoints_clear w ts us n c q (Load a) (Add b y) (inl h) (inl k, ko) m = clash w ts us n Write Read q refl h k
-adjoints_clear w ts us n c q (Load a) (Add b y) (inl h) (inr k, ko) m = only w ts us n Write q refl k (inl h)
-adjoints_clear w ts us n c q (Load a) (Add b y) (inr (inl h)) (inl k, ko) m = clash w ts us n Update Read q refl h k
-adjoints_clear w ts us n c q (Load a) (Add b y) (inr (inl h)) (inr k, ko) m = only w ts us n Update q refl k (inl h)
-adjoints_clear w ts us n c q (Load a) (Add b y) (inr (inr (h, hs))) (inl k, ko) m = two_ways _ hs ko
-adjoints_clear w ts us n c q (Load a) (Add b y) (inr (inr (h, hs))) (inr k, ko) m = two_ways _ hs ko
-adjoints_clear w ts us n c q (Store a x) (Load b) h (inl k) m = clash w ts us n Write Write q refl h k
-adjoints_clear w ts us n c q (Store a x) (Load b) h (inr (inl k)) m = clash w ts us n Write Update q refl h k
-adjoints_clear w ts us n c q (Store a x) (Load b) h (inr (inr (k, ks))) m = clash w ts us n Write Read q refl h (read_of w q us k)
-adjoints_clear w ts us n c q (Store a x) (Store b y) h k m = clash w ts us n Write Write q refl h k
-adjoints_clear w ts us n c q (Store a x) (Bump b y) h (k, ks) m = clash w ts us n Write Read q refl h (read_of w q us k)
-adjoints_clear w ts us n c q (Store a x) (Add b y) h (inl k, ko) m = clash w ts us n Write Read q refl h k
-adjoints_clear w ts us n c q (Store a x) (Add b y) h (inr k, ko) m = only w ts us n Write q refl k (inl h)
-adjoints_clear w ts us n c q (Bump a x) (Load b) (h, hs) (inl k) m = clash w ts us n Read Write q refl (read_of w q ts h) k
-adjoints_clear w ts us n c q (Bump a x) (Load b) (h, hs) (inr (inl k)) m = clash w ts us n Read Update q refl (read_of w q ts h) k
-adjoints_clear w ts us n c q (Bump a x) (Load b) (h, hs) (inr (inr (k, ks))) m = n.shared q hs h k
-adjoints_clear w ts us n c q (Bump a x) (Store b y) (h, hs) k m = clash w ts us n Read Write q refl (read_of w q ts h) k
+adjoints_clear w ts us n c q (Load a) (Store b y) ((inl h), hr) (k, kr) m = clash w ts us n Write Write q refl h k
+adjoints_clear w ts us n c q (Load a) (Store b y) ((inr (inl h)), hr) (k, kr) m = clash w ts us n Update Write q refl h k
+adjoints_clear w ts us n c q (Load a) (Store b y) ((inr (inr (h, hs))), hr) (k, kr) m = clash w ts us n Read Write q refl (read_of w q ts h) k
+adjoints_clear w ts us n c q (Load a) (Bump b y) ((inl h), hr) (k, ks) m = clash w ts us n Write Read q refl h (read_of w q us k)
+adjoints_clear w ts us n c q (Load a) (Bump b y) ((inr (inl h)), hr) (k, ks) m = clash w ts us n Update Read q refl h (read_of w q us k)
+adjoints_clear w ts us n c q (Load a) (Bump b y) ((inr (inr (h, hs))), hr) (k, ks) m = n.shared q hs h k
+adjoints_clear w ts us n c q (Load a) (Add b y) ((inl h), hr) (inl k, ko) m = clash w ts us n Write Read q refl h k
+adjoints_clear w ts us n c q (Load a) (Add b y) ((inl h), hr) (inr k, ko) m = reduced _ k hr
+adjoints_clear w ts us n c q (Load a) (Add b y) ((inr (inl h)), hr) (inl k, ko) m = clash w ts us n Update Read q refl h k
+adjoints_clear w ts us n c q (Load a) (Add b y) ((inr (inl h)), hr) (inr k, ko) m = reduced _ k hr
+adjoints_clear w ts us n c q (Load a) (Add b y) ((inr (inr (h, hs))), hr) (inl k, ko) m = two_ways _ hs ko
+adjoints_clear w ts us n c q (Load a) (Add b y) ((inr (inr (h, hs))), hr) (inr k, ko) m = two_ways _ hs ko
+adjoints_clear w ts us n c q (Store a x) (Load b) (h, hr) ((inl k), kr) m = clash w ts us n Write Write q refl h k
+adjoints_clear w ts us n c q (Store a x) (Load b) (h, hr) ((inr (inl k)), kr) m = clash w ts us n Write Update q refl h k
+adjoints_clear w ts us n c q (Store a x) (Load b) (h, hr) ((inr (inr (k, ks))), kr) m = clash w ts us n Write Read q refl h (read_of w q us k)
+adjoints_clear w ts us n c q (Store a x) (Store b y) (h, hr) (k, kr) m = clash w ts us n Write Write q refl h k
+adjoints_clear w ts us n c q (Store a x) (Bump b y) (h, hr) (k, ks) m = clash w ts us n Write Read q refl h (read_of w q us k)
+adjoints_clear w ts us n c q (Store a x) (Add b y) (h, hr) (inl k, ko) m = clash w ts us n Write Read q refl h k
+adjoints_clear w ts us n c q (Store a x) (Add b y) (h, hr) (inr k, ko) m = reduced _ k hr
+adjoints_clear w ts us n c q (Bump a x) (Load b) (h, hs) ((inl k), kr) m = clash w ts us n Read Write q refl (read_of w q ts h) k
+adjoints_clear w ts us n c q (Bump a x) (Load b) (h, hs) ((inr (inl k)), kr) m = clash w ts us n Read Update q refl (read_of w q ts h) k
+adjoints_clear w ts us n c q (Bump a x) (Load b) (h, hs) ((inr (inr (k, ks))), kr) m = n.shared q hs h k
+adjoints_clear w ts us n c q (Bump a x) (Store b y) (h, hs) (k, kr) m = clash w ts us n Read Write q refl (read_of w q ts h) k
 adjoints_clear w ts us n c q (Bump a x) (Bump b y) (h, hs) (k, ks) m = n.shared q hs h k
 adjoints_clear w ts us n c q (Bump a x) (Add b y) (h, hs) (inl k, ko) m = two_ways _ hs ko
 adjoints_clear w ts us n c q (Bump a x) (Add b y) (h, hs) (inr k, ko) m = two_ways _ hs ko
-adjoints_clear w ts us n c q (Add a x) (Load b) (inl h, ho) (inl k) m = clash w ts us n Read Write q refl h k
-adjoints_clear w ts us n c q (Add a x) (Load b) (inl h, ho) (inr (inl k)) m = clash w ts us n Read Update q refl h k
-adjoints_clear w ts us n c q (Add a x) (Load b) (inl h, ho) (inr (inr (k, ks))) m = two_ways _ ks ho
-adjoints_clear w ts us n c q (Add a x) (Load b) (inr h, ho) (inl k) m = only w ts us n Write q refl h (inr k)
-adjoints_clear w ts us n c q (Add a x) (Load b) (inr h, ho) (inr (inl k)) m = only w ts us n Update q refl h (inr k)
-adjoints_clear w ts us n c q (Add a x) (Load b) (inr h, ho) (inr (inr (k, ks))) m = two_ways _ ks ho
-adjoints_clear w ts us n c q (Add a x) (Store b y) (inl h, ho) k m = clash w ts us n Read Write q refl h k
-adjoints_clear w ts us n c q (Add a x) (Store b y) (inr h, ho) k m = only w ts us n Write q refl h (inr k)
+adjoints_clear w ts us n c q (Add a x) (Load b) (inl h, ho) ((inl k), kr) m = clash w ts us n Read Write q refl h k
+adjoints_clear w ts us n c q (Add a x) (Load b) (inl h, ho) ((inr (inl k)), kr) m = clash w ts us n Read Update q refl h k
+adjoints_clear w ts us n c q (Add a x) (Load b) (inl h, ho) ((inr (inr (k, ks))), kr) m = two_ways _ ks ho
+adjoints_clear w ts us n c q (Add a x) (Load b) (inr h, ho) ((inl k), kr) m = reduced _ h kr
+adjoints_clear w ts us n c q (Add a x) (Load b) (inr h, ho) ((inr (inl k)), kr) m = reduced _ h kr
+adjoints_clear w ts us n c q (Add a x) (Load b) (inr h, ho) ((inr (inr (k, ks))), kr) m = two_ways _ ks ho
+adjoints_clear w ts us n c q (Add a x) (Store b y) (inl h, ho) (k, kr) m = clash w ts us n Read Write q refl h k
+adjoints_clear w ts us n c q (Add a x) (Store b y) (inr h, ho) (k, kr) m = reduced _ h kr
 adjoints_clear w ts us n c q (Add a x) (Bump b y) (inl h, ho) (k, ks) m = two_ways _ ks ho
 adjoints_clear w ts us n c q (Add a x) (Bump b y) (inr h, ho) (k, ks) m = two_ways _ ks ho
 adjoints_clear w ts us n c q (Add a x) (Add b y) h k m = cc

@@ -352,7 +352,7 @@ ungrown_ran w u s vs bs t ts atomic p rs s2 fit sound k told subs covered l wide
 pub increment_undone : (w : World) (u : Use) (ts : Log) (atomic : Bool) (p : Designator) (rs : List Signed) → SoundIncrement w u p rs → (s : Cells) (t : Tape) → Fit w u s → Within w.active (increment w.site s p rs (increment_kind atomic (w.site.pluses p.name))).log ts
     → (s2 : Cells) → (increment w.site s p rs (increment_kind atomic (w.site.pluses p.name))).out ≡ Ok s2
     → Undoes w u ts (increment_back w atomic p rs) t (tape_after (increment w.site s p rs (increment_kind atomic (w.site.pluses p.name))).log t) s s2
-increment_undone w u ts atomic p rs sound s t fit ins s2 h vs bs l wide long = rw (increment_tape w s p rs n s2 k t) (by_active (w.active p.name) refl)
+increment_undone w u ts atomic p rs sound s t fit ins s2 h vs bs l wide long small = rw (increment_tape w s p rs n s2 k t) (by_active (w.active p.name) refl)
   where
     n : AccessKind
     n = increment_kind atomic (w.site.pluses p.name)
@@ -407,9 +407,9 @@ increment_undone w u ts atomic p rs sound s t fit ins s2 h vs bs l wide long = r
         let own : Local = local w.shared t un.vs1 bs in
         let right : Inside w ts (terms_of rs w.site s).log = record { told = terms_told; reads = λ q i. all.differentiated q (inl (differentiated_if w p.name q (terms_of rs w.site s).log on i)) } in
         let one : Got w ts (flat w.shared un.vs1 bs) (play (adjoint_tree w p own) (flat w.shared un.vs1 bs)) a silence =
-        adjoint_got w u s un.vs1 bs t ts sc p k.q (sound.target.subscripts on) at (λ i. either_touched (atomic || w.site.pluses p.name) k.q ts (covered i)) in
+        adjoint_got w u s un.vs1 bs t ts sc p k.q (sound.target.subscripts on) at (λ i. either_touched (atomic || w.site.pluses p.name) k.q ts (covered i)) (sound.target.summed on) in
         let su = terms_sums w u s ts fit a rs k.ds k.out right (sound.kinds on) (sound.quiet on) in
-        let sp = spreads w u s un.vs1 bs t ts a sc (rest_occurrences w.active rs) su.z (sound.amounts on) su.sum in
+        let sp = spreads w u s un.vs1 bs t ts a sc (rest_occurrences w.active rs) su.z (sound.amounts on) su.sum small in
         let here : slice_index ds k.q ≡ (as_dual k.v).tangent =
         live_at (λ p. u.live (name_at w.site.keys p)) 0 k.q (map tangent_of s) (ap (λ (p : ℕ). u.live (name_at w.site.keys p)) (omega arith) ∙ (live_is ∙ on)) ∙ (tangent_here s k.q ∙ (ap tangent_of k.held ∙ tangent_held k.v)) in
         let after-store : tangents u w.site.keys s2 ≡ slice_set ds k.q (incremented_dual k.ds (as_dual k.v)).tangent = ap (tangents u w.site.keys) k.cells ∙ tangents_on w u s k.q x (live_is ∙ on) in
@@ -424,6 +424,7 @@ increment_undone w u ts atomic p rs sound s t fit ins s2 h vs bs l wide long = r
           like = un.like;
           wide = un.wide;
           long = sp.long;
+          words = sp.words;
           pairs = sp.pairs ∙ (same_sum (pair bs ds) (pair bs ds) su.z (a * drift k.ds) refl su.same ∙ (sym (pair_moved bs ds k.q (incremented_dual k.ds (as_dual k.v)).tangent (drift k.ds) (long ∙ sym (tangents_long w u s fit)) moved-by) ∙ of_equal _ _ (ap (pair bs) (sym after-store))));
           cover = cover_both w ts _ _ un.cover (cover_both w ts _ _ (one.cover (silent ts)) sp.cover);
         })))
@@ -436,6 +437,7 @@ increment_undone w u ts atomic p rs sound s t fit ins s2 h vs bs l wide long = r
           like = un.like;
           wide = un.wide;
           long = long;
+          words = small;
           pairs = of_equal _ _ (ap (pair bs) (sym (ap (tangents u w.site.keys) k.cells ∙ tangents_off w u s k.q x (live_is ∙ on))));
           cover = cover_both w ts _ [] un.cover tt;
         }))

@@ -1,5 +1,5 @@
 -- An iteration of a parallel loop is undone by itself, from its tape.
-use Rattle.std.proofs.Common.{◌≡◌, ℕ, ◌-◌, ◌*◌, ◌<◌, ◌≤◌, List, [], ◌∷◌, ◌++◌, refl, ap, sym, ◌∙◌, subst, arith, length, take, drop, map, Bool, true, false, ◌||◌, cond, Option, Some, None, Ok, inl, inr}
+use Rattle.std.proofs.Common.{◌≡◌, ℕ, ◌+◌, ◌-◌, ◌*◌, ◌<◌, ◌≤◌, List, [], ◌∷◌, ◌++◌, refl, ap, sym, ◌∙◌, subst, arith, length, take, drop, map, Bool, true, false, ◌||◌, cond, Option, Some, None, Ok, inl, inr}
 use Rattle.std.specs.Prelude.{slice_index, bytes_eq, nat_lt}
 use Rattle.std.proofs.lemmas.Slice.Eq.{bytes_eq-Decides}
 use Rattle.std.proofs.lemmas.List.{length-map, length-append, length-drop, length-take-le, take_at, drop_at, get_or_append_left, get_or-append_right, get_or-take, get_or-drop}
@@ -9,7 +9,7 @@ use Rattle.pairing.proofs.Sames.{of_equal}
 use Rattle.fl_ast.specs.declared.directive.Directive.{Directive}
 use Rattle.fl_ast.specs.Tree.{Statements}
 use Rattle.fl_types.specs.Sharing.{has_name}
-use Rattle.operations.specs.Tree.{Tree, Played, play}
+use Rattle.operations.specs.Tree.{Played, play}
 use Rattle.meaning.specs.declared.value.Value.{Value}
 use Rattle.meaning.specs.declared.value.Value.TheVariants.{Index}
 use Rattle.meaning.specs.declared.value.TrapAt.{TrapAt}
@@ -19,12 +19,16 @@ use Rattle.meaning.specs.Expressions.{content}
 use Rattle.meaning.specs.Statements.{Run, with_log, set_log_at, with_all_unset, unset_log, private_words, with_variables, Heads, one_iteration, run_all}
 use Rattle.fl_types.specs.Nests.{iteration_body}
 use Rattle.transposition.specs.Calms.{inner_of}
+use Rattle.transposition.proofs.Words.{zero_word}
+use Rattle.transposition.proofs.Split.{adjoint_cell}
+use Rattle.transposition.proofs.Collections.{Collected, collections_played}
+use Rattle.std.specs.Prelude.{◌^◌}
 use Rattle.transposition.proofs.Heads.{Settings, settings, set_names, AllIndex, set_cells, set_words, words_set, SettingRun, setting_run, IsSet, VariablesSet, variables_set, set_fit}
 use Rattle.meaning.specs.Adjoints.{tangent_of}
 use Rattle.transposition.specs.Tapes.{Tape, Tapes, empty, tape_after, tape_at}
 use Rattle.transposition.specs.Worlds.{World, Local, name_at, in_iteration}
 use Rattle.transposition.specs.Back.{loop_variables, with_variable_words, pop_privates, clear_privates, iteration_local, iteration_tree, back_all}
-use Rattle.transposition.specs.Law.{Use, local, flat, Like, tangents, Fit, HasKind, Within, CoverAll, Ends, Undoes}
+use Rattle.transposition.specs.Law.{Use, local, flat, Like, tangents, Fit, HasKind, Within, CoverAll, Ends, Undoes, AreWords}
 use Rattle.transposition.specs.Sound.{AllOwn, privates_of, SoundRounds, writes_in}
 use Rattle.transposition.proofs.Split.{less, not_less}
 use Rattle.transposition.proofs.Places.{content_past}
@@ -197,8 +201,8 @@ pub iteration_step : (w : World) (u inner : Use) (number : ℕ) (directive : Dir
     → KeptBody (in_iteration w number directive var tree) inner (iteration_body directive tree) → UndoneBody (in_iteration w number directive var tree) inner (iteration_body directive tree) (begun w directive var tree (settings heads k) s) → Fit w u s
     → (iteration_run w directive var tree heads k s).out ≡ Ok s2 → tape_at tapes k ≡ tape_after (inner_of (iteration_run w directive var tree heads k s).log) empty
     → Step (in_iteration w number directive var tree) u (inner_of (iteration_run w directive var tree heads k s).log) (iteration_tree w number directive var tree heads tapes (back_all (iteration_body directive tree)) m k) m.values m.adjoints s s2
-iteration_step w u inner number directive var tree sound heads tapes m k s s2 varies ix keeping undoing fit h tape vs bs like wide long own mine =
-    subst (λ (r : Played Local). Round v u r s s2 vs bs × CoverAll v l r.ops) (sym played-is) (round, ends.cover)
+iteration_step w u inner number directive var tree sound heads tapes m k s s2 varies ix keeping undoing fit h tape vs bs like wide long own mine small =
+    (round, col.cover)
   where
     n : ℕ
     n = w.shared
@@ -305,14 +309,32 @@ iteration_step w u inner number directive var tree sound heads tapes m k s s2 va
         by_private true f false g = let none : None ≡ Some y = sym (content_past s2 p (let a = kept.fit.long in let b = not_less p (length vs1) g in let d = va.long in omega arith)) ∙ e in cc
         by_private false f c g = by_variable (has_name (name_at w.site.keys p) vars) refl f
 
-    ends : Ends v inner l (play (back_all body v (local n (tape_after body-log empty) re.vs1 cl.bs1)) (flat n re.vs1 cl.bs1)) empty s1 s2 cl.bs1
-    ends = undo re.vs1 cl.bs1 like2 wide2 long2
+    small2 : AreWords cl.bs1
+    small2 p = by_private (has_name (name_at w.site.keys p) names) refl
+      where
+        by_private : (b : Bool) → has_name (name_at w.site.keys p) names ≡ b → slice_index cl.bs1 p < 2 ^ 64
+        by_private true f = subst (λ (x : ℕ). x < 2 ^ 64) (sym (cl.here p f)) zero_word
+        by_private false f = subst (λ (x : ℕ). x < 2 ^ 64) (sym (cl.other p f)) (small p)
 
-    played-is : play (iteration_tree w number directive var tree heads tapes (back_all body) m k) (flat n vs bs) ≡ play (back_all body v (local n (tape_after body-log empty) re.vs1 cl.bs1)) (flat n re.vs1 cl.bs1)
-    played-is = ap (λ (x : Tree Local). play x (flat n vs bs)) (sound.plain (back_all body v (iteration_local w directive var tree heads tapes m k))) ∙ (ap (λ (x : Local). play (back_all body v x) (flat n vs bs)) local-is ∙ ap (λ (c : List ℕ). play (back_all body v (local n (tape_after body-log empty) re.vs1 cl.bs1)) c) flat-is)
+    ends : Ends v inner l (play (back_all body v (local n (tape_after body-log empty) re.vs1 cl.bs1)) (flat n re.vs1 cl.bs1)) empty s1 s2 cl.bs1
+    ends = undo re.vs1 cl.bs1 like2 wide2 long2 small2
 
     room3 : n ≤ length ends.vs2
     room3 = let a = ends.wide in let b = fit.room in omega arith
+
+    r0 : Played Local
+    r0 = play (back_all body v (local n (tape_after body-log empty) re.vs1 cl.bs1)) (flat n re.vs1 cl.bs1)
+
+    same-tree : play (back_all body v (iteration_local w directive var tree heads tapes m k)) (flat n vs bs) ≡ r0
+    same-tree = ap (λ (x : Local). play (back_all body v x) (flat n vs bs)) local-is ∙ ap (λ (c : List ℕ). play (back_all body v (local n (tape_after body-log empty) re.vs1 cl.bs1)) c) flat-is
+
+    small3 : (p : ℕ) → p < n → slice_index r0.cells (n + p) < 2 ^ 64
+    small3 p i = subst (λ (c : List ℕ). slice_index c (n + p) < 2 ^ 64) (sym ends.cells) (subst (λ (x : ℕ). x < 2 ^ 64) (sym (adjoint_cell n p ends.vs2 ends.bs2 room3 i)) (ends.words p))
+
+    col : Collected v l (play (iteration_tree w number directive var tree heads tapes (back_all body) m k) (flat n vs bs)) r0
+    col = subst (λ (x : Played Local). Collected v l (play (iteration_tree w number directive var tree heads tapes (back_all body) m k) (flat n vs bs)) x) same-tree
+        (collections_played v l w.site.declared (back_all body v (iteration_local w directive var tree heads tapes m k)) (flat n vs bs) sound.inside sound.summed
+        (subst (λ (x : Played Local). CoverAll v l x.ops) (sym same-tree) ends.cover) (subst (λ (x : Played Local). (p : ℕ) → p < n → slice_index x.cells (n + p) < 2 ^ 64) (sym same-tree) small3))
 
     room4 : n ≤ length ends.bs2
     room4 = let a = ends.long in let b = fit.room in omega arith
@@ -381,14 +403,22 @@ iteration_step w u inner number directive var tree sound heads tapes m k s s2 va
         by_private p true f = times_zero _ _ (cl.here p f) ∙ sym (zero_times _ _ (counts u w.site.keys s2 p ∙ cond_off (u.live (name_at w.site.keys p)) _ (sound.dead p (own_above w names p sound.privates f))))
         by_private p false f = rw (cl.other p f, counts inner w.site.keys s2 p, counts u w.site.keys s2 p, sound.live (name_at w.site.keys p) f) refl
 
-    round : Round v u (play (back_all body v (local n (tape_after body-log empty) re.vs1 cl.bs1)) (flat n re.vs1 cl.bs1)) s s2 vs bs
+    small4 : AreWords (mixed n ends.bs2 bs)
+    small4 p = by_side (nat_lt p n) refl
+      where
+        by_side : (b : Bool) → nat_lt p n ≡ b → slice_index (mixed n ends.bs2 bs) p < 2 ^ 64
+        by_side true f = subst (λ (x : ℕ). x < 2 ^ 64) (sym (mixed_below n p ends.bs2 bs room4 (less p n f))) (ends.words p)
+        by_side false f = subst (λ (x : ℕ). x < 2 ^ 64) (sym (mixed_above n p ends.bs2 bs room4 (not_less p n f))) (small p)
+
+    round : Round v u (play (iteration_tree w number directive var tree heads tapes (back_all body) m k) (flat n vs bs)) s s2 vs bs
     round = record {
       vs2 = mixed n ends.vs2 vs;
       bs2 = mixed n ends.bs2 bs;
-      cells = ends.cells ∙ (rw (mixed_cells n ends.vs2 vs room3, mixed_cells n ends.bs2 bs room4) refl);
+      cells = col.cells ∙ ends.cells ∙ (rw (mixed_cells n ends.vs2 vs room3, mixed_cells n ends.bs2 bs room4) refl);
       like = like3;
       wide = mixed_long n ends.vs2 vs room3 room ∙ wide;
       long = mixed_long n ends.bs2 bs room4 room5 ∙ long;
+      words = small4;
       own = mixed_own n ends.vs2 vs room3;
       mine = mixed_own n ends.bs2 bs room4;
       pairs = of_equal _ _ begin-pairs ∙ (ends.pairs ∙ of_equal _ _ end-pairs);

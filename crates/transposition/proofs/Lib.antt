@@ -29,3 +29,5 @@ pub mod Whole
 pub mod Transposed
 mod Premises
 mod Squares
+pub mod Words
+pub mod Collections

@@ -19,7 +19,7 @@ use Rattle.transposition.proofs.Nesting.{unwritten}
 use Rattle.transposition.specs.Tapes.{Tape, Tapes, none, more, many, empty, top_tapes, both_tapes, tape_count, tape_at, tape_after, iteration_tapes}
 use Rattle.transposition.specs.Worlds.{World, Local, in_iteration}
 use Rattle.transposition.specs.Back.{variables_of, loop_variables, heads_on, below_bounds, iteration_tree, parallel_back, back_all, after_pop}
-use Rattle.transposition.specs.Law.{Use, local, flat, Like, tangents, Fit, CoverAll, Ends, Calm}
+use Rattle.transposition.specs.Law.{Use, local, flat, Like, tangents, Fit, CoverAll, Ends, Calm, AreWords}
 use Rattle.transposition.proofs.Bounds.{bound}
 use Rattle.transposition.proofs.Reading.{cover_both}
 use Rattle.transposition.proofs.Kept.{Keeps}
@@ -151,6 +151,7 @@ round_world w v u r s s2 vs bs e f h = record {
   like = rw (← f) h.like;
   wide = rw (← f) h.wide;
   long = rw (← f) h.long;
+  words = h.words;
   own = rw (← e) h.own;
   mine = rw (← e) h.mine;
   pairs = rw (← f) h.pairs;
@@ -172,9 +173,9 @@ pub parallel_undone : (w : World) (u inner : Use) (ts : Log) (number : ℕ) (dir
     → (heads : Heads) → head_names heads ≡ loop_variables directive var tree → AllCounted heads
     → (s s2 : Cells) → Fit w u s → (turns (iterations heads) (iteration_run w directive var tree heads) s).out ≡ Ok s2
     → ((i j : ℕ) → i < iterations heads → j < iterations heads → i ≢ j → Calm (in_iteration w number directive var tree) (iteration_log w.site directive var heads tree s i) (iteration_log w.site directive var heads tree s j))
-    → (tape : Tape) (vs bs : List ℕ) → Like u w.site.keys vs s2 → length vs ≡ length w.site.keys → length bs ≡ length w.site.keys
+    → (tape : Tape) (vs bs : List ℕ) → Like u w.site.keys vs s2 → length vs ≡ length w.site.keys → length bs ≡ length w.site.keys → AreWords bs
     → ParallelUndone w u ts number directive var tree heads tape (iteration_tapes (turns (iterations heads) (iteration_run w directive var tree heads) s).log) s s2 vs bs
-parallel_undone w u inner ts number directive var tree sound keeping undoing heads names counted s s2 fit h calm tape vs bs like wide long = record {
+parallel_undone w u inner ts number directive var tree sound keeping undoing heads names counted s s2 fit h calm tape vs bs like wide long small = record {
   ends = subst (λ (l : List (List ℕ)). Ends w u ts (play (loop_with (heads_on l full) (below_bounds l full)) c) tape s s2 bs) names
       (rw (heads_is heads (many tapes tape) counted, below_is heads (many tapes tape)) final);
   orderly = orderly;
@@ -220,15 +221,15 @@ parallel_undone w u inner ts number directive var tree sound keeping undoing hea
     taped-all = tapes_of n f s s2 told h
 
     step : (i : ℕ) → i < n → Step v u (logs i) (g i) m.values m.adjoints (state_at f s i) (state_at f s (suc i))
-    step i k ys cs l2 wide2 long2 own mine =
-        let st = iteration_step w u inner number directive var tree sound heads tapes m i (state_at f s i) (state_at f s (suc i)) (names_set heads i ∙ names) (all_index heads i counted k) keeping (undoing (begun w directive var tree (settings heads i) (state_at f s i))) (states_fit w u inner number directive var tree sound keeping heads names counted s s2 fit i (omega arith) h) (chained n f s s2 h i k) (taped-all.each i k) ys cs l2 wide2 long2 own mine in
+    step i k ys cs l2 wide2 long2 own mine small =
+        let st = iteration_step w u inner number directive var tree sound heads tapes m i (state_at f s i) (state_at f s (suc i)) (names_set heads i ∙ names) (all_index heads i counted k) keeping (undoing (begun w directive var tree (settings heads i) (state_at f s i))) (states_fit w u inner number directive var tree sound keeping heads names counted s s2 fit i (omega arith) h) (chained n f s s2 h i k) (taped-all.each i k) ys cs l2 wide2 long2 own mine small in
         st
 
     at-end : state_at f s n ≡ s2
     at-end = state_end n f s s2 h
 
     undo : Undo v u g logs n s (state_at f s n) vs bs
-    undo = rounds_undone v u g logs (state_at f s) m.values m.adjoints n sound.inside calm step vs bs (subst (λ (x : Cells). Like u w.site.keys vs x) (sym at-end) like) wide long refl refl
+    undo = rounds_undone v u g logs (state_at f s) m.values m.adjoints n sound.inside calm step vs bs (subst (λ (x : Cells). Like u w.site.keys vs x) (sym at-end) like) wide long refl refl small
 
     orderly : IsDisciplined (ops_alone g c) n
     orderly = disciplined v g logs n c sound.inside calm undo.each
@@ -248,6 +249,7 @@ parallel_undone w u inner ts number directive var tree sound keeping undoing hea
       like = undo.all.like;
       wide = undo.all.wide;
       long = undo.all.long;
+      words = undo.all.words;
       pairs = subst (λ (x : Cells). Same (pair undo.all.bs2 (tangents u w.site.keys s)) (pair bs (tangents u w.site.keys x))) at-end undo.all.pairs;
       cover = cover_both w ts (play (rounds g n) c).ops [] (subst (λ (l : List Op). CoverAll w ts l) (sym ops-are) (cover_order w v ts logs (ops_alone g c) n refl sound.silent undo.each)) tt;
     })

@@ -24,13 +24,14 @@ use Rattle.meaning.specs.Expressions.{content, value_of, values_of}
 use Rattle.meaning.specs.Statements.{store_at, put, plain_assignment}
 use Rattle.meaning.specs.Adjoints.{tangent_of}
 use Rattle.transposition.specs.Tapes.{Tape, word, tape_after, top}
-use Rattle.transposition.specs.Worlds.{World, Local, adjoint_load, set_adjoint, set_value, is_one_step, name_at}
+use Rattle.transposition.specs.Worlds.{World, Local, adjoint_load, set_adjoint, set_value, is_one_step, is_reduction, name_at}
 use Rattle.transposition.specs.Reads.{place_tree}
 use Rattle.transposition.specs.Spread.{occurrences, spread, with_sign}
 use Rattle.transposition.specs.Back.{after_pop, adjoint_tree, take_adjoint, restore_value, plain_back}
 use Rattle.transposition.specs.Law.{Use, flat, local, Like, Fit, tangents, HasTouch, HasDifferentiatedRead, Within, CoverAll, Ends, Undoes}
 use Rattle.transposition.specs.Needs.{Needs, NeedsAll}
 use Rattle.transposition.specs.Sound.{SoundTarget, SoundPlain}
+use Rattle.transposition.proofs.Words.{words_set, zero_word}
 use Rattle.transposition.proofs.Split.{before, making, adjoint_at_played, set_adjoint_played, set_value_played}
 use Rattle.transposition.proofs.Keys.{Stands, stands}
 use Rattle.transposition.proofs.Places.{content_set_other, tangents_set}
@@ -178,9 +179,9 @@ placed w s ts p e s2 k h = record { vals = k.vals; out = k.subs; told = h; place
 
 -- a load of the target's adjoint
 pub adjoint_got : (w : World) (u : Use) (s : Cells) (vs bs : List ℕ) (t : Tape) (ts : Log) → Scene w u s vs bs → (p : Designator) (q : ℕ) → NeedsAll u p.subscripts → Placed w s ts p q
-    → (w.site.accessed p.name ≡ true → HasTouch Write q ts ⊎ HasTouch Update q ts)
+    → (w.site.accessed p.name ≡ true → HasTouch Write q ts ⊎ HasTouch Update q ts) → is_reduction (w.choice p.name) ≡ false
     → Got w ts (flat w.shared vs bs) (play (adjoint_tree w p (local w.shared t vs bs)) (flat w.shared vs bs)) (slice_index bs q) silence
-adjoint_got w u s vs bs t ts h p q n k covered =
+adjoint_got w u s vs bs t ts h p q n k covered off =
     got_bind w ts c (place_tree p w l) (adjoint_load w l) q (slice_index bs q) (place_got w u s vs bs t ts h p q n k)
     (rw (adjoint_at_played w t q vs bs (room w u s vs bs h)) (record { out = refl; cells = refl; cover = λ i. by_test (nat_lt q w.shared) refl }))
   where
@@ -198,7 +199,7 @@ adjoint_got w u s vs bs t ts h p q n k covered =
     weaker (inr a) = inr (inl a)
 
     by_test : (b : Bool) → nat_lt q w.shared ≡ b → CoverAll w ts (cond b (Load (w.shared + q) ∷ []) [])
-    by_test true f = (cover_adjoint w ts (Load (w.shared + q)) q refl f (λ e. weaker (covered (ap w.site.accessed (sym named) ∙ e))), tt)
+    by_test true f = (cover_adjoint w ts (Load (w.shared + q)) q refl f (λ e. (weaker (covered (ap w.site.accessed (sym named) ∙ e)), ap (λ (y : List ℕ). is_reduction (w.choice y)) named ∙ off)), tt)
     by_test false f = tt
 
 record Moved (w : World) (ts : Log) (p : Designator) (q : ℕ) (t : Tape) (vs bs : List ℕ) : Type 0 where
@@ -210,8 +211,8 @@ appended : {A : Type 0} (r : Played A) (os us : List Op) → before os (before u
 appended r os us = ap (λ (l : List Op). record { out = r.out; cells = r.cells; ops = l }) (sym (append_assoc os us r.ops))
 
 moved_ran : (w : World) (u : Use) (s : Cells) (vs bs : List ℕ) (t : Tape) (ts : Log) → Scene w u s vs bs → (p : Designator) (q : ℕ) → NeedsAll u p.subscripts → Placed w s ts p q
-    → (w.site.accessed p.name ≡ true → HasTouch Write q ts) → Moved w ts p q t vs bs
-moved_ran w u s vs bs t ts h p q n k covered = record {
+    → (w.site.accessed p.name ≡ true → HasTouch Write q ts) → is_reduction (w.choice p.name) ≡ false → Moved w ts p q t vs bs
+moved_ran w u s vs bs t ts h p q n k covered off = record {
   ops = (play (adjoint_tree w p l) c).ops ++ ((play (place_tree p w l) c).ops ++ making w.shared q (Store (w.shared + q) 0));
   cover = cover_both w ts _ _ (one.cover (silent ts)) (cover_both w ts _ _ (two.cover (silent ts)) (by_test (nat_lt q w.shared) refl));
   ran = λ f.
@@ -229,7 +230,7 @@ moved_ran w u s vs bs t ts h p q n k covered = record {
     l = local w.shared t vs bs
 
     one : Got w ts c (play (adjoint_tree w p l) c) (slice_index bs q) silence
-    one = adjoint_got w u s vs bs t ts h p q n k (λ e. inl (covered e))
+    one = adjoint_got w u s vs bs t ts h p q n k (λ e. inl (covered e)) off
 
     two : Got w ts c (play (place_tree p w l) c) q silence
     two = place_got w u s vs bs t ts h p q n k
@@ -238,7 +239,7 @@ moved_ran w u s vs bs t ts h p q n k covered = record {
     named = (stands w.site.keys p.name (whole_numbers k.vals) q k.place).named
 
     by_test : (b : Bool) → nat_lt q w.shared ≡ b → CoverAll w ts (cond b (Store (w.shared + q) 0 ∷ []) [])
-    by_test true f = (cover_adjoint w ts (Store (w.shared + q) 0) q refl f (λ e. covered (ap w.site.accessed (sym named) ∙ e)), tt)
+    by_test true f = (cover_adjoint w ts (Store (w.shared + q) 0) q refl f (λ e. (covered (ap w.site.accessed (sym named) ∙ e), ap (λ (y : List ℕ). is_reduction (w.choice y)) named ∙ off)), tt)
     by_test false f = tt
 
 record Restored (w : World) (u : Use) (ts : Log) (r : Played Local) (t : Tape) (s : Cells) (bs : List ℕ) : Type 0 where
@@ -339,7 +340,7 @@ plain_tape w s p e s2 k t = ap (λ (l : Log). tape_after l t) k.log ∙ (rw (wor
 
 pub plain_undone : (w : World) (u : Use) (ts : Log) (p : Designator) (e : Expression) → SoundPlain w u p e → (s : Cells) (t : Tape) → Fit w u s → Within w.active (plain_assignment w.site s p e).log ts → (s2 : Cells) → (plain_assignment w.site s p e).out ≡ Ok s2
     → Undoes w u ts (plain_back w p e) t (tape_after (plain_assignment w.site s p e).log t) s s2
-plain_undone w u ts p e sound s t fit ins s2 h vs bs l wide long = rw (plain_tape w s p e s2 k t) (by_active (w.active p.name) refl)
+plain_undone w u ts p e sound s t fit ins s2 h vs bs l wide long small = rw (plain_tape w s p e s2 k t) (by_active (w.active p.name) refl)
   where
     k : PlainRun w.site s p e s2
     k = plain_run w.site s p e s2 h
@@ -381,11 +382,11 @@ plain_undone w u ts p e sound s t fit ins s2 h vs bs l wide long = rw (plain_tap
         let bs1 : List ℕ = slice_set bs k.q 0 in
         let long1 : length bs1 ≡ length w.site.keys = length-set bs k.q 0 ∙ long in
         let sc = scene_without w u s p.name k.q x vs bs fit named like2 wide long in
-        let mv : Moved w ts p k.q tape vs bs = moved_ran w (without p.name u) s vs bs tape ts sc p k.q (needs_all_without u p.name p.subscripts (sound.target.subscripts on) sound.target.free) at covered in
+        let mv : Moved w ts p k.q tape vs bs = moved_ran w (without p.name u) s vs bs tape ts sc p k.q (needs_all_without u p.name p.subscripts (sound.target.subscripts on) sound.target.free) at covered (sound.target.summed on) in
         let re : Restored w u ts (play (restore_value w p (local w.shared tape vs bs1)) (flat w.shared vs bs1)) t s bs1 = restored_ran w u s x vs bs1 t ts fit p k.q sound.target at covered like2 wide long1 in
         let sc1 : Scene w u s re.vs1 bs1 = record { fit = fit; like = re.like; wide = re.wide; long = long1 } in
         let su : Sums w s ts a (occurrences w.active e false []) (with_sign false a * moves k.v) = expression_sums w u s ts fit e false [] a a refl (told.right on) (sound.kinds on) (sound.quiet on) k.v k.out in
-        let sp = spreads w u s re.vs1 bs1 t ts a sc1 (occurrences w.active e false []) su.z (sound.amounts on) su.sum in
+        let sp = spreads w u s re.vs1 bs1 t ts a sc1 (occurrences w.active e false []) su.z (sound.amounts on) su.sum (words_set bs k.q 0 zero_word small) in
         let ds : List ℕ = tangents u w.site.keys s in
         let after-store : tangents u w.site.keys s2 ≡ slice_set ds k.q (moves k.v) = ap (tangents u w.site.keys) k.cells ∙ (tangents_on w u s k.q x (live_is ∙ on) ∙ ap (slice_set ds k.q) (ring_tangent w.site p.name k.v (sound.target.ring on))) in
         rw (mv.ran (λ a y. and_then (restore_value w p y) (spread w a (occurrences w.active e false []))))
@@ -398,6 +399,7 @@ plain_undone w u ts p e sound s t fit ins s2 h vs bs l wide long = rw (plain_tap
           like = re.like;
           wide = re.wide;
           long = sp.long;
+          words = sp.words;
           pairs = sp.pairs ∙ (same_sum (pair bs1 ds) (pair bs1 ds) su.z (a * moves k.v) refl su.same ∙ of_equal _ _ (sym (pair_set bs ds k.q (moves k.v) (long ∙ sym (tangents_long w u s fit))) ∙ ap (pair bs) (sym after-store)));
           cover = cover_both w ts _ _ mv.cover (cover_both w ts _ _ re.cover sp.cover);
         })))
@@ -411,6 +413,7 @@ plain_undone w u ts p e sound s t fit ins s2 h vs bs l wide long = rw (plain_tap
           like = re.like;
           wide = re.wide;
           long = long;
+          words = small;
           pairs = of_equal _ _ (ap (pair bs) (sym (ap (tangents u w.site.keys) k.cells ∙ tangents_off w u s k.q x (live_is ∙ on))));
           cover = re.cover;
         }

@@ -14,7 +14,7 @@ use Rattle.operations.proofs.Orders.{apart_before, before_apart, rounds_alone}
 use Rattle.meaning.specs.Logs.{Log}
 use Rattle.meaning.specs.Sites.{Cells}
 use Rattle.transposition.specs.Worlds.{World}
-use Rattle.transposition.specs.Law.{Use, flat, Like, tangents, CoverAll, Calm}
+use Rattle.transposition.specs.Law.{Use, flat, Like, tangents, CoverAll, Calm, AreWords}
 use Rattle.transposition.proofs.Clears.{AllAccessed, apart_of}
 
 pub below_by : (i n : ℕ) → i < suc n → i ≢ n → i < n
@@ -32,6 +32,7 @@ pub record Round {A : Type 0} (w : World) (u : Use) (r : Played A) (s s2 : Cells
   pub like : Like u w.site.keys vs2 s
   pub wide : length vs2 ≡ length w.site.keys
   pub long : length bs2 ≡ length w.site.keys
+  pub words : AreWords bs2
   pub own : drop w.shared vs2 ≡ drop w.shared vs
   pub mine : drop w.shared bs2 ≡ drop w.shared bs
   pub pairs : Same (pair bs2 (tangents u w.site.keys s)) (pair bs (tangents u w.site.keys s2))
@@ -39,7 +40,7 @@ pub record Round {A : Type 0} (w : World) (u : Use) (r : Played A) (s s2 : Cells
 -- an iteration from any cells at its end, with these words of the outside
 abbrev pub Step : {A : Type 0} → World → Use → Log → Tree A → List ℕ → List ℕ → Cells → Cells → Type 0
 Step w u l t own mine s s2 =
-    (vs bs : List ℕ) → Like u w.site.keys vs s2 → length vs ≡ length w.site.keys → length bs ≡ length w.site.keys → drop w.shared vs ≡ own → drop w.shared bs ≡ mine
+    (vs bs : List ℕ) → Like u w.site.keys vs s2 → length vs ≡ length w.site.keys → length bs ≡ length w.site.keys → drop w.shared vs ≡ own → drop w.shared bs ≡ mine → AreWords bs
     → Round w u (play t (flat w.shared vs bs)) s s2 vs bs × CoverAll w l (play t (flat w.shared vs bs)).ops
 
 -- all rounds undone, and each covered by its own touches, from the cells of the entry
@@ -61,6 +62,7 @@ round_more {A} w u g logs s s1 s2 n vs bs all calm one cover-one ih = record {
     like = ih.all.like;
     wide = ih.all.wide;
     long = ih.all.long;
+    words = ih.all.words;
     own = ih.all.own ∙ one.own;
     mine = ih.all.mine ∙ one.mine;
     pairs = ih.all.pairs ∙ one.pairs;
@@ -135,11 +137,11 @@ round_more {A} w u g logs s s1 s2 n vs bs all calm one cover-one ih = record {
 
 pub rounds_undone : {A : Type 0} (w : World) (u : Use) (g : ℕ → Tree A) (logs : ℕ → Log) (states : ℕ → Cells) (own mine : List ℕ) (n : ℕ) → AllAccessed w → ((i j : ℕ) → i < n → j < n → i ≢ j → Calm w (logs i) (logs j))
     → ((i : ℕ) → i < n → Step w u (logs i) (g i) own mine (states i) (states (suc i)))
-    → (vs bs : List ℕ) → Like u w.site.keys vs (states n) → length vs ≡ length w.site.keys → length bs ≡ length w.site.keys → drop w.shared vs ≡ own → drop w.shared bs ≡ mine
+    → (vs bs : List ℕ) → Like u w.site.keys vs (states n) → length vs ≡ length w.site.keys → length bs ≡ length w.site.keys → drop w.shared vs ≡ own → drop w.shared bs ≡ mine → AreWords bs
     → Undo w u g logs n (states 0) (states n) vs bs
-rounds_undone w u g logs states own mine zero all calm step vs bs l wide long e f =
-    record { all = record { vs2 = vs; bs2 = bs; cells = refl; like = l; wide = wide; long = long; own = refl; mine = refl; pairs = refl }; each = λ i h. absurd (omega arith) }
-rounds_undone w u g logs states own mine (suc n) all calm step vs bs l wide long e f =
-    let one = step n (omega arith) vs bs l wide long e f in
+rounds_undone w u g logs states own mine zero all calm step vs bs l wide long e f small =
+    record { all = record { vs2 = vs; bs2 = bs; cells = refl; like = l; wide = wide; long = long; words = small; own = refl; mine = refl; pairs = refl }; each = λ i h. absurd (omega arith) }
+rounds_undone w u g logs states own mine (suc n) all calm step vs bs l wide long e f small =
+    let one = step n (omega arith) vs bs l wide long e f small in
     round_more w u g logs (states 0) (states n) (states (suc n)) n vs bs all calm one.0 one.1
-    (rounds_undone w u g logs states own mine n all (λ i j h k d. calm i j (omega arith) (omega arith) d) (λ i h. step i (omega arith)) one.0.vs2 one.0.bs2 one.0.like one.0.wide one.0.long (one.0.own ∙ e) (one.0.mine ∙ f))
+    (rounds_undone w u g logs states own mine n all (λ i j h k d. calm i j (omega arith) (omega arith) d) (λ i h. step i (omega arith)) one.0.vs2 one.0.bs2 one.0.like one.0.wide one.0.long (one.0.own ∙ e) (one.0.mine ∙ f) one.0.words)

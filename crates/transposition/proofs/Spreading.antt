@@ -22,8 +22,9 @@ use Rattle.transposition.specs.Tapes.{Tape}
 use Rattle.transposition.specs.Worlds.{World, Local, name_at, is_one_step, increment_adjoint}
 use Rattle.transposition.specs.Reads.{value_tree, holds_tree, place_tree}
 use Rattle.transposition.specs.Spread.{Factor, operand, either, Occurrence, factor_tree, product_tree, with_sign, increment_one, spread}
-use Rattle.transposition.specs.Law.{Use, flat, local, Fit, tangents, HasTouch, HasDifferentiatedRead, CoverAll}
+use Rattle.transposition.specs.Law.{Use, flat, local, Fit, tangents, HasTouch, HasDifferentiatedRead, CoverAll, AreWords}
 use Rattle.transposition.specs.Needs.{NeedsFactor, NeedsFactors, NeedsOne, NeedsEach}
+use Rattle.transposition.proofs.Words.{words_set, sum_word, not_summed}
 use Rattle.transposition.proofs.Split.{grow_adjoint_played}
 use Rattle.transposition.proofs.Flats.{flat_value}
 use Rattle.transposition.proofs.Keys.{stands}
@@ -116,6 +117,7 @@ pub record Spreads (w : World) (u : Use) (s : Cells) (ts : Log) (r : Played Loca
   pub out : r.out ≡ local w.shared t vs bs2
   pub cells : r.cells ≡ flat w.shared vs bs2
   pub long : length bs2 ≡ length w.site.keys
+  pub words : AreWords bs2
   pub pairs : Same (pair bs2 (tangents u w.site.keys s)) (pair bs (tangents u w.site.keys s) + z)
   pub cover : CoverAll w ts r.ops
 
@@ -125,9 +127,9 @@ tangents_long w u s h = length_live (λ p. u.live (name_at w.site.keys p)) 0 (ma
 scene_with : (w : World) (u : Use) (s : Cells) (vs bs bs2 : List ℕ) → Scene w u s vs bs → length bs2 ≡ length w.site.keys → Scene w u s vs bs2
 scene_with w u s vs bs bs2 h l = record { fit = h.fit; like = h.like; wide = h.wide; long = l }
 
-one_spreads : (w : World) (u : Use) (s : Cells) (vs bs : List ℕ) (t : Tape) (ts : Log) (a : ℕ) → Scene w u s vs bs → (o : Occurrence) (z : ℕ) → NeedsOne u o → Worth w s ts a o z
+one_spreads : (w : World) (u : Use) (s : Cells) (vs bs : List ℕ) (t : Tape) (ts : Log) (a : ℕ) → Scene w u s vs bs → (o : Occurrence) (z : ℕ) → NeedsOne u o → Worth w s ts a o z → AreWords bs
     → Spreads w u s ts (play (increment_one w a o (local w.shared t vs bs)) (flat w.shared vs bs)) t vs bs z
-one_spreads w u s vs bs t ts a h o z q k =
+one_spreads w u s vs bs t ts a h o z q k small =
     rw (got_then w ts silence (product_tree w l o.factors a) (λ x. and_then (place_tree o.place w l) (λ p. increment_adjoint w (w.choice o.place.name) p (with_sign o.negative x) l)) c k.n one)
     (rw (got_then w ts silence (place_tree o.place w l) (λ p. increment_adjoint w (w.choice o.place.name) p x l) c k.p two)
     (rw (grow_adjoint_played w (w.choice o.place.name) t k.p x vs bs (room w u s vs bs h)) (record {
@@ -135,6 +137,7 @@ one_spreads w u s vs bs t ts a h o z q k =
       out = refl;
       cells = refl;
       long = length-set bs k.p _ ∙ h.long;
+      words = words_set bs k.p (ring_add (slice_index bs k.p) x) (sum_word (slice_index bs k.p) x) small;
       pairs = pair_grow bs ds k.p x (h.long ∙ sym (tangents_long w u s h.fit)) ∙ of_equal _ _ (ap (λ (d : ℕ). pair bs ds + x * d) here ∙ ap (λ (m : ℕ). pair bs ds + m) (sym k.amount));
       cover = cover_both w ts _ _ (one.cover (silent ts)) (cover_both w ts _ _ (two.cover (silent ts)) last_ops);
     })))
@@ -172,23 +175,24 @@ one_spreads w u s vs bs t ts a h o z q k =
         by_tests : (b d : Bool) → nat_lt k.p w.shared ≡ b → is_one_step (w.choice o.place.name) ≡ d → CoverAll w ts (cond b (cond d (Add (w.shared + k.p) x ∷ []) (Load (w.shared + k.p) ∷ Bump (w.shared + k.p) x ∷ [])) [])
         by_tests true true f g = (cover_adjoint w ts (Add (w.shared + k.p) x) k.p refl f (λ e. (inl (k.read (accessed e)), ap (λ (y : List ℕ). is_one_step (w.choice y)) named ∙ g)), tt)
         by_tests true false f g = (
-          cover_adjoint w ts (Load (w.shared + k.p)) k.p refl f (λ e. inr (inr (k.differentiated (accessed e), ap (λ (y : List ℕ). is_one_step (w.choice y)) named ∙ g))),
+          cover_adjoint w ts (Load (w.shared + k.p)) k.p refl f (λ e. (inr (inr (k.differentiated (accessed e), ap (λ (y : List ℕ). is_one_step (w.choice y)) named ∙ g)), not_summed (w.choice (name_at w.site.keys k.p)) (ap (λ (y : List ℕ). is_one_step (w.choice y)) named ∙ g))),
           (cover_adjoint w ts (Bump (w.shared + k.p) x) k.p refl f (λ e. (k.differentiated (accessed e), ap (λ (y : List ℕ). is_one_step (w.choice y)) named ∙ g)), tt),
         )
         by_tests false d f g = tt
 
-pub spreads : (w : World) (u : Use) (s : Cells) (vs bs : List ℕ) (t : Tape) (ts : Log) (a : ℕ) → Scene w u s vs bs → (os : List Occurrence) (z : ℕ) → NeedsEach u os → Sum w s ts a os z
+pub spreads : (w : World) (u : Use) (s : Cells) (vs bs : List ℕ) (t : Tape) (ts : Log) (a : ℕ) → Scene w u s vs bs → (os : List Occurrence) (z : ℕ) → NeedsEach u os → Sum w s ts a os z → AreWords bs
     → Spreads w u s ts (play (spread w a os (local w.shared t vs bs)) (flat w.shared vs bs)) t vs bs z
-spreads w u s vs bs t ts a h [] z q k =
-    record { bs2 = bs; out = refl; cells = refl; long = h.long; pairs = of_equal _ _ (rw k (omega arith)); cover = tt }
-spreads w u s vs bs t ts a h (o ∷ os) z q k =
-    let one = one_spreads w u s vs bs t ts a h o k.0 q.0 k.2 in
-    let more = spreads w u s vs one.bs2 t ts a (scene_with w u s vs bs one.bs2 h one.long) os k.1 q.1 k.3 in
+spreads w u s vs bs t ts a h [] z q k small =
+    record { bs2 = bs; out = refl; cells = refl; long = h.long; words = small; pairs = of_equal _ _ (rw k (omega arith)); cover = tt }
+spreads w u s vs bs t ts a h (o ∷ os) z q k small =
+    let one = one_spreads w u s vs bs t ts a h o k.0 q.0 k.2 small in
+    let more = spreads w u s vs one.bs2 t ts a (scene_with w u s vs bs one.bs2 h one.long) os k.1 q.1 k.3 one.words in
     rw (bind (increment_one w a o (local w.shared t vs bs)) (spread w a os) (flat w.shared vs bs)) (rw (one.out, one.cells) (record {
       bs2 = more.bs2;
       out = more.out;
       cells = more.cells;
       long = more.long;
+      words = more.words;
       pairs = more.pairs ∙ (same_sum _ _ k.1 k.1 one.pairs refl ∙ of_equal _ _ (let e = k.4 in omega arith));
       cover = cover_both w ts _ _ one.cover more.cover;
     }))

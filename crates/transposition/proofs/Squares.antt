@@ -1,10 +1,10 @@
 -- The premises of the law can be met with a parallel loop: x(i) = x(i)*x(i).
-use Rattle.std.proofs.Common.{◌≡◌, ◌≢◌, ℕ, zero, suc, ◌<◌, ◌≤◌, ◌==◌, List, [], ◌∷◌, refl, ap, sym, ◌∙◌, subst, Bool, true, false, not, ◌&&◌, ◌||◌, Option, Some, None, Ok, arith, inl, inr}
+use Rattle.std.proofs.Common.{◌≡◌, ◌≢◌, ℕ, zero, suc, ◌<◌, ◌≤◌, ◌==◌, List, [], ◌∷◌, refl, ap, sym, ◌∙◌, subst, Bool, true, false, not, ◌&&◌, ◌||◌, Some, None, arith, inl, inr}
 use Rattle.std.specs.Prelude.{codes, slice_index, bytes_eq, ◌⊎◌}
 use Rattle.std.proofs.lemmas.Bool.{eqb-true, and_parts}
 use Rattle.ring_core.specs.Index.{exact_index}
 use Rattle.fl_ast.specs.declared.kind.Kind.TheVariants as kind
-use Rattle.fl_ast.specs.Tree.{Statements, Statement}
+use Rattle.fl_ast.specs.Tree.{Statements}
 use Rattle.fl_types.specs.declared.access.AccessKind.{AccessKind}
 use Rattle.fl_types.specs.declared.choice.Choice.TheVariants.{Shared, Atomic}
 use Rattle.meaning.specs.declared.value.Value.{Value}
@@ -13,16 +13,17 @@ use Rattle.meaning.specs.declared.value.IterationCount.{IterationCount}
 use Rattle.meaning.specs.Logs.{Log, silence, single, touched, sets, both, within}
 use Rattle.meaning.specs.Sites.{Cells, Site, opening_site, kind_of, word_of}
 use Rattle.meaning.specs.Expressions.{content}
-use Rattle.meaning.specs.Statements.{run_all, Heads, iterations}
+use Rattle.meaning.specs.Statements.{Heads, iterations}
 use Rattle.meaning.specs.Adjoints.{cells_along, unit}
 use Rattle.meaning.proofs.Small.{declared, scalar, array, word, number, one, name, at, into, ◌times◌, only, set as set_to, clauses, parallel, all_pushed}
 use Rattle.transposition.specs.Worlds.{World, in_iteration, name_at}
-use Rattle.transposition.specs.Law.{Use, Like, HasKind, Fit, HasTouch, Calm}
+use Rattle.transposition.specs.Law.{Use, Like, HasKind, Fit, HasTouch, Calm, AreWords}
 use Rattle.transposition.specs.Sound.{writes_in, SoundAll, SoundRounds, Own}
 use Rattle.fl_types.specs.Sharing.{has_name}
 use Rattle.std.proofs.lemmas.Slice.Eq.{bytes_eq-Decides}
 use Rattle.transposition.specs.Calms.{IsCalmAll, iteration_log}
 use Rattle.transposition.specs.Answer.{Answer}
+use Rattle.transposition.proofs.Words.{all_small}
 use Rattle.transposition.proofs.Transposed.{answered}
 
 abbrev n : List ℕ
@@ -84,24 +85,24 @@ own_i = record { q = 3; place = refl; only = only_at; own = omega arith }
 
 rounds_sound : SoundRounds world outer inner 1 clauses i body
 rounds_sound = record {
-    variables = (own_i, tt);
-    whole = λ z h. named i z (λ y. site.ring y ≡ false) h refl;
-    apart = λ z h. refl;
-    unvaried = λ z h. named i z (λ y. writes_in y body ≡ false) h refl;
-    privates = tt;
-    assigned = λ z h. cc;
-    pushed = λ z h k. refl;
-    needed = λ z h k e. ap not (or_false (bytes_eq z i) e);
-    outside = λ z h. (refl, refl, or_none (bytes_eq z i) (not_true (bytes_eq z i) h));
-    live = λ z h. refl;
-    moved = λ z. refl;
-    dead = dead;
-    stays = stays;
-    listed = λ z h. cc;
-    inside = inside;
-    silent = λ z. refl;
-    plain = λ t. refl;
-  }
+  variables = (own_i, tt);
+  whole = λ z h. named i z (λ y. site.ring y ≡ false) h refl;
+  apart = λ z h. refl;
+  unvaried = λ z h. named i z (λ y. writes_in y body ≡ false) h refl;
+  privates = tt;
+  assigned = λ z h. cc;
+  pushed = λ z h k. refl;
+  needed = λ z h k e. ap not (or_false (bytes_eq z i) e);
+  outside = λ z h. (refl, refl, or_none (bytes_eq z i) (not_true (bytes_eq z i) h));
+  live = λ z h. refl;
+  moved = λ z. refl;
+  dead = dead;
+  stays = stays;
+  listed = λ z h. cc;
+  inside = inside;
+  silent = λ z. refl;
+  summed = ((λ h. cc), ((λ h. cc), ((λ h. cc), tt)));
+}
   where
     dead : (p : ℕ) → 3 ≤ p → bytes_eq (name_at site.keys p) x ≡ false
     dead zero h = absurd (omega arith)
@@ -124,12 +125,28 @@ rounds_sound = record {
     inside (suc (suc (suc p))) h = absurd (omega arith)
 
 sound : SoundAll world outer squares
-sound = ((inner, rounds_sound, (tt, tt, tt), tt, (((record {
-    target = record { subscripts = λ e. ((refl, tt), tt); undone = λ e. ((refl, tt), tt); free = refl; pushed = λ e. refl; live = refl; ring = λ e. refl };
-    amounts = λ e. (record { factors = ((refl, ((refl, tt), tt)), tt); subscripts = ((refl, tt), tt); live = refl }, (record { factors = ((refl, ((refl, tt), tt)), tt); subscripts = ((refl, tt), tt); live = refl }, tt));
-    quiet = λ e. ((λ h. cc), (λ h. cc));
-    kinds = λ e. (tt, tt);
-  }, record { literals = ((tt, tt), (tt, tt)); whole = λ h. cc; still = λ h. cc }), tt)), (tt, tt)), tt)
+sound = (
+  (
+    inner,
+    rounds_sound,
+    (tt, tt, tt),
+    tt,
+    ((
+      (
+        record {
+          target = record { subscripts = λ e. ((refl, tt), tt); undone = λ e. ((refl, tt), tt); free = refl; pushed = λ e. refl; live = refl; ring = λ e. refl; summed = λ e. refl };
+          amounts = λ e. (record { factors = ((refl, ((refl, tt), tt)), tt); subscripts = ((refl, tt), tt); live = refl }, (record { factors = ((refl, ((refl, tt), tt)), tt); subscripts = ((refl, tt), tt); live = refl }, tt));
+          quiet = λ e. ((λ h. cc), (λ h. cc));
+          kinds = λ e. (tt, tt);
+        },
+        record { literals = ((tt, tt), (tt, tt)); whole = λ h. cc; still = λ h. cc },
+      ),
+      tt,
+    )),
+    (tt, tt),
+  ),
+  tt,
+)
 
 abbrev cells : Cells
 cells = number 2 ∷ word 3 ∷ word 5 ∷ None ∷ []
@@ -155,10 +172,9 @@ touched_at q p k (within r a) h g = touched_at q p k a h g
 
 calm_by : (l m : Log) (q r : ℕ) → q ≢ r → all_at q l ≡ true → all_at r m ≡ true → Calm (in_iteration world 1 clauses i body) l m
 calm_by l m q r d h g = record {
-    kinds = λ k j p a b. absurd (d (sym (touched_at q p k l h a) ∙ touched_at r p j m g b));
-    shared = λ p e a b. cc;
-    only = λ k p e a. cc;
-  }
+  kinds = λ k j p a b. absurd (d (sym (touched_at q p k l h a) ∙ touched_at r p j m g b));
+  shared = λ p e a b. cc;
+}
 
 abbrev made : IterationCount
 made = record { first = Rattle.std.specs.Prelude.pos 1; last = Rattle.std.specs.Prelude.pos 2; step = Rattle.std.specs.Prelude.pos 1; count = 2 }
@@ -178,9 +194,12 @@ calm_made (suc zero) (suc (suc k)) a b d = absurd (omega arith)
 
 calm : IsCalmAll squares world (cells_along (unit 1) cells)
 unfolding exact_index
-calm = ((λ t e j k a b d.
-    let f : heads ≡ t = cc in
-    subst (λ (y : Heads). j < iterations y → k < iterations y → Calm (in_iteration world 1 clauses i body) (iteration_log site clauses i y body (cells_along (unit 1) cells) j) (iteration_log site clauses i y body (cells_along (unit 1) cells) k)) f (λ g h. calm_made j k g h d) a b), λ s h. tt)
+calm = (
+  (λ t e j k a b d.
+      let f : heads ≡ t = cc in
+      subst (λ (y : Heads). j < iterations y → k < iterations y → Calm (in_iteration world 1 clauses i body) (iteration_log site clauses i y body (cells_along (unit 1) cells) j) (iteration_log site clauses i y body (cells_along (unit 1) cells) k)) f (λ g h. calm_made j k g h d) a b),
+  λ s h. tt,
+)
 
 of_value : (a b : Value) (k : _) → Some a ≡ Some b → HasKind k a → HasKind k b
 of_value a b k e h = let f : a ≡ b = cc in subst (λ (v : Value). HasKind k v) f h
@@ -205,9 +224,12 @@ like (suc (suc zero)) v e h = word_same (Ring (record { value = 25; tangent = 0 
 like (suc (suc (suc zero))) v e h = cc
 like (suc (suc (suc (suc p)))) v e h = cc
 
+small : AreWords (0 ∷ 1 ∷ 10 ∷ 0 ∷ [])
+small = all_small (0 ∷ 1 ∷ 10 ∷ 0 ∷ []) refl
+
 met : Answer world outer squares cells (2 ∷ 9 ∷ 25 ∷ 0 ∷ []) (0 ∷ 1 ∷ 10 ∷ 0 ∷ []) 1
 unfolding exact_index
-met = answered world outer squares cells (number 2 ∷ word 9 ∷ word 25 ∷ number 2 ∷ []) (2 ∷ 9 ∷ 25 ∷ 0 ∷ []) (0 ∷ 1 ∷ 10 ∷ 0 ∷ []) 1 (record { value = 3; tangent = 0 }) sound calm fit refl like refl refl refl refl dead_seed
+met = answered world outer squares cells (number 2 ∷ word 9 ∷ word 25 ∷ number 2 ∷ []) (2 ∷ 9 ∷ 25 ∷ 0 ∷ []) (0 ∷ 1 ∷ 10 ∷ 0 ∷ []) 1 (record { value = 3; tangent = 0 }) sound calm fit refl like refl refl small refl refl dead_seed
   where
     dead_seed : (p : ℕ) → bytes_eq (name_at site.keys p) x ≡ false → true ≡ true → slice_index (0 ∷ 1 ∷ 10 ∷ 0 ∷ []) p ≡ 0
     dead_seed zero h k = refl

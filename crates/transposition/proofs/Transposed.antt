@@ -131,13 +131,13 @@ long_along [] (c ∷ s) = ap suc (long_along [] s)
 long_along (t ∷ ts) (c ∷ s) = ap suc (long_along ts s)
 
 pub answered : ReverseIsTransposed
-answered w u xs s s2 vs seed j d sound calm fit h like wide long ring alive dead =
+answered w u xs s s2 vs seed j d sound calm fit h like wide long small ring alive dead =
     let sj = cells_along (unit j) s in
     let unseen = tangents_are_unseen xs w.site s sj (sym (along_along (unit j) s)) in
     let t = turned (run_all xs w.site sj).out (run_all xs w.site s).out s2 h unseen.1 in
     let kept = kept_all xs w u sj t.s3 fit sound t.out in
     let like3 = like_along u w.site.keys vs s2 t.s3 t.same like in
-    let e = undone_all xs w u (run_all xs w.site sj).log sj t.s3 empty fit sound calm (record { touches = λ k p i. i; differentiated = λ p i. i }) t.out vs seed like3 wide long in
+    let e = undone_all xs w u (run_all xs w.site sj).log sj t.s3 empty fit sound calm (record { touches = λ k p i. i; differentiated = λ p i. i }) t.out vs seed like3 wide long small in
     let same-tree : play (back_all xs w (local w.shared (tape_after (run_all xs w.site sj).log empty) vs seed)) (flat w.shared vs seed) ≡ swept w xs s vs seed =
     ap (λ (l : Log). play (back_all xs w (local w.shared (tape_after l empty) vs seed)) (flat w.shared vs seed)) (sym unseen.0) in
     let unit-pair : pair e.bs2 (tangents u w.site.keys sj) ≡ slice_index e.bs2 j =

@@ -51,9 +51,9 @@ use Rattle.transposition.proofs.Taping.{Wordless, wordless_bind, wordless}
 use Rattle.transposition.proofs.Runs.{turns_kept}
 
 pub undone_both : (w : World) (u : Use) (ts : Log) (f g : Local → Tree Local) (t t1 t2 : Tape) (s s1 s2 : Cells) → Undoes w u ts f t t1 s s1 → Undoes w u ts g t1 t2 s1 s2 → Undoes w u ts (λ l. and_then (g l) f) t t2 s s2
-undone_both w u ts f g t t1 t2 s s1 s2 h k vs bs l wide long =
-    let a = k vs bs l wide long in
-    let b = h a.vs2 a.bs2 a.like a.wide a.long in
+undone_both w u ts f g t t1 t2 s s1 s2 h k vs bs l wide long small =
+    let a = k vs bs l wide long small in
+    let b = h a.vs2 a.bs2 a.like a.wide a.long a.words in
     rw (bind (g (local w.shared t2 vs bs)) f (flat w.shared vs bs)) (rw (a.out, a.cells) (record {
       vs2 = b.vs2;
       bs2 = b.bs2;
@@ -62,13 +62,14 @@ undone_both w u ts f g t t1 t2 s s1 s2 h k vs bs l wide long =
       like = b.like;
       wide = b.wide;
       long = b.long;
+      words = b.words;
       pairs = b.pairs ∙ a.pairs;
       cover = cover_both w ts _ _ a.cover b.cover;
     }))
 
 pub undone_none : (w : World) (u : Use) (ts : Log) (t : Tape) (s s2 : Cells) → s ≡ s2 → Undoes w u ts (λ l. done l) t t s s2
-undone_none w u ts t s s2 e vs bs l wide long =
-    record { vs2 = vs; bs2 = bs; out = refl; cells = refl; like = rw e l; wide = wide; long = long; pairs = rw e refl; cover = tt }
+undone_none w u ts t s s2 e vs bs l wide long small =
+    record { vs2 = vs; bs2 = bs; out = refl; cells = refl; like = rw e l; wide = wide; long = long; words = small; pairs = rw e refl; cover = tt }
 
 -- the same with another tape, or another end
 pub undone_tape : (w : World) (u : Use) (ts : Log) (f : Local → Tree Local) (t t1 t2 : Tape) (s s2 : Cells) → t1 ≡ t2 → Undoes w u ts f t t1 s s2 → Undoes w u ts f t t2 s s2
@@ -195,12 +196,12 @@ pub turn_undone : (w : World) (u : Use) (ts : Log) (var : List ℕ) (first last 
     → length s ≡ length w.site.keys → (let z : ℤ = value_at b k in
     (content s2 v.q ≡ Some (Index z)) × Undoes (in_turn w var) (scope_with var u) ts (body (in_turn w var)) t t2 (slice_set s v.q (Some (Index z))) s2)
     → Undoes w u ts (one_turn_back w var b body k) t t2 s s2
-turn_undone w u ts var first last step v b k body t t2 s s2 size h vs bs l wide long =
+turn_undone w u ts var first last step v b k body t t2 s s2 size h vs bs l wide long small =
     let z : ℤ = value_at b k in
     let x : ℕ = cast_unsigned w64 z in
     let st = stands w.site.keys var [] v.q v.place in
     let vs1 : List ℕ = slice_set vs v.q x in
-    let a = h.1 vs1 bs (variable_like w u var first last step v z vs s2 (let i = st.there in omega arith) h.0 l) (length-set vs v.q x ∙ wide) long in
+    let a = h.1 vs1 bs (variable_like w u var first last step v z vs s2 (let i = st.there in omega arith) h.0 l) (length-set vs v.q x ∙ wide) long small in
     let same-local : variable_set w var b k (local w.shared t2 vs bs) ≡ local w.shared t2 vs1 bs =
     ap (λ (o : Option ℕ). with_value w (place_or_zero o) x (local w.shared t2 vs bs)) v.place ∙ locals_same w.shared t2 (slice_set (drop w.shared vs) (v.q - w.shared) x) (drop w.shared vs1) (drop w.shared bs) (set_own w.shared v.q x vs v.own) in
     let same-cells : flat w.shared vs bs ≡ flat w.shared vs1 bs = ap (λ (c : List ℕ). c ++ take w.shared bs) (cells_kept w.shared v.q x vs v.own) in
@@ -212,6 +213,7 @@ turn_undone w u ts var first last step v b k body t t2 s s2 size h vs bs l wide 
       like = like_outside w u var first last step v (Some (Index z)) a.vs2 s a.like;
       wide = a.wide;
       long = a.long;
+      words = a.words;
       pairs = of_equal _ _ (ap (pair a.bs2) (sym (tangents_off w u s v.q (Some (Index z)) (ap u.live st.named ∙ v.dead)))) ∙ a.pairs;
       cover = a.cover;
     })
@@ -236,5 +238,5 @@ arm_chosen w u ts test body arms line m other otherback t s s2 false h ins q f g
 pub words_undone : (w : World) (u : Use) (ts : Log) (var : List ℕ) (body : Statements) (tr : IterationCount) (tape t : Tape) (s s2 : Cells) → IsIndex tr.first → IsIndex tr.last → IsIndex tr.step → tr.count ≡ clipped (int_div ((tr.last -ℤ tr.first) +ℤ tr.step) tr.step)
     → Undoes w u ts (turns_back tr.count (one_turn_back w var tr (back_all body))) t tape s s2
     → Undoes w u ts (loop_back w var (back_all body)) t (word (cast_unsigned w64 tr.step) (word (cast_unsigned w64 tr.last) (word (cast_unsigned w64 tr.first) tape))) s s2
-words_undone w u ts var body tr tape t s s2 a b c d h vs bs l wide long =
-    subst (λ (x : IterationCount). Ends w u ts (play (turns_back x.count (one_turn_back w var x (back_all body)) (local w.shared tape vs bs)) (flat w.shared vs bs)) t s s2 bs) (sym (turns_back_on tr tape a b c d)) (h vs bs l wide long)
+words_undone w u ts var body tr tape t s s2 a b c d h vs bs l wide long small =
+    subst (λ (x : IterationCount). Ends w u ts (play (turns_back x.count (one_turn_back w var x (back_all body)) (local w.shared tape vs bs)) (flat w.shared vs bs)) t s s2 bs) (sym (turns_back_on tr tape a b c d)) (h vs bs l wide long small)

@@ -271,12 +271,12 @@ mutual
       let n = iterations p.heads in
       let f = iteration_run w directive var body p.heads in
       let words : Undoes w u ts (parallel_back w number directive var body (back_all (iteration_body directive body))) t (loop_tape p.heads (iteration_tapes (turns n f s).log) t) s s2 =
-      λ vs bs lk wide long. (parallel_undone w u sound.0 ts number directive var body sound.1
+      λ vs bs lk wide long small. (parallel_undone w u sound.0 ts number directive var body sound.1
       (kept_body (is_nest directive body) body v sound.0 sound.4 (λ q s s2 fit h. kept_all body v sound.0 s s2 fit q h) (λ q s s2 fit h. kept_inner body v sound.0 s s2 fit q h))
       (sound_undone (is_nest directive body) body v sound.0 sound.4
       (λ q s ts s2 t fit ins h. undone_all body v sound.0 ts s s2 t fit q (flat_calm body v s sound.5) ins h)
       (λ q s ts s2 t fit ins h. undone_inner body v sound.0 ts s s2 t fit q sound.5 ins h))
-      p.heads r.names r.counted s s2 fit (p.ran ∙ ap (λ (x : Cells). Ok x) p.last_is) (calm p.heads p.counts) t vs bs lk wide long).ends in
+      p.heads r.names r.counted s s2 fit (p.ran ∙ ap (λ (x : Cells). Ok x) p.last_is) (calm p.heads p.counts) t vs bs lk wide long small).ends in
       undone_tape w u ts (back (loop line number (Some directive) var first last step body) w) t (loop_tape p.heads (iteration_tapes (turns n f s).log) t) _ s s2
       (sym (ap (λ (x : Traced TrapAt Cells). tape_after x.log t) (by_body w line d directive body s) ∙ (ap (λ (m : Log). tape_after m t) p.log
       ∙ ap (λ (x : Tape). loop_tape p.heads (iteration_tapes (turns n f s).log) x) (r.quiet t))))

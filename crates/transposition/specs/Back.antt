@@ -1,11 +1,9 @@
 -- The reverse part of statements, as trees of operations.
-use Rattle.std.specs.Prelude.{ℕ, zero, suc, ◌+◌, ◌/◌, ◌%◌, Bool, true, false, ◌&&◌, ◌||◌, cond, if◌then◌else◌, List, [], ◌∷◌, ◌++◌, Option, Some, None, ◌+ℤ◌, ◌-ℤ◌, int_div}
+use Rattle.std.specs.Prelude.{ℕ, zero, suc, ◌+◌, ◌/◌, ◌%◌, Bool, false, ◌&&◌, ◌||◌, cond, if◌then◌else◌, List, [], ◌∷◌, ◌++◌, Option, Some, None, ◌+ℤ◌, ◌-ℤ◌, int_div}
 use Rattle.std.specs.Int.{w64, cast_signed, cast_unsigned}
 use Rattle.ring_core.specs.Ring.{ring_add, ring_sub}
 use Rattle.fl_ast.specs.declared.directive.Directive.{Directive}
 use Rattle.fl_ast.specs.Tree.{Expression, Designator, Statement, assignment, branch, loop, Statements, no_statements, statement, Arms, no_arms, arm}
-use Rattle.fl_types.specs.declared.choice.Choice.{Choice}
-use Rattle.fl_types.specs.declared.choice.Choice.TheVariants.{Shared, Atomic, Reduction}
 use Rattle.fl_types.specs.Increment.{Signed, increment_terms}
 use Rattle.fl_types.specs.Nests.{Head, is_nest, further_head}
 use Rattle.fl_types.specs.Sharing.{assigns_in}
@@ -19,7 +17,7 @@ use Rattle.meaning.specs.Values.{as_dual}
 use Rattle.meaning.specs.Sites.{place_of}
 use Rattle.meaning.specs.Statements.{private_names, value_at, Heads, iterations}
 use Rattle.transposition.specs.Tapes.{Tape, Tapes, top, rest, top_tapes, tape_at}
-use Rattle.transposition.specs.Worlds.{World, Local, adjoint_load, set_value, set_adjoint, increment_value, with_value, with_adjoint, in_turn, in_iteration}
+use Rattle.transposition.specs.Worlds.{World, Local, is_reduction, adjoint_load, set_value, set_adjoint, increment_value, with_value, with_adjoint, in_turn, in_iteration}
 use Rattle.transposition.specs.Reads.{value_tree, place_tree, place_or_zero}
 use Rattle.transposition.specs.Spread.{Occurrence, occurrences, spread}
 
@@ -134,11 +132,6 @@ clear_privates w (x ∷ xs) l = clear_privates w xs (with_adjoint w (place_or_ze
 -- the additions to a Reduction's adjoint, made once at the end
 abbrev pub with_collection : ℕ → Tree Local → Tree Local
 with_collection q t = collect q t 0 giving (λ r. does (Add q r.1) (done r.0))
-
-abbrev pub is_reduction : Choice → Bool
-is_reduction Reduction = true
-is_reduction Shared = false
-is_reduction Atomic = false
 
 abbrev pub with_collections : World → List (List ℕ) → Tree Local → Tree Local
 with_collections w [] t = t

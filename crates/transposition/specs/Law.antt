@@ -20,7 +20,7 @@ use Rattle.meaning.specs.Expressions.{content}
 use Rattle.meaning.specs.Adjoints.{tangent_of}
 use Rattle.meaning.specs.Conflicts.{clashes}
 use Rattle.transposition.specs.Tapes.{Tape, tape_after}
-use Rattle.transposition.specs.Worlds.{World, Local, is_one_step, name_at}
+use Rattle.transposition.specs.Worlds.{World, Local, is_one_step, is_reduction, name_at}
 
 -- names in scope whose values the reverse part reads, whose adjoints count, and whose tangents may differ from 0
 pub record Use : Type 0 where
@@ -93,8 +93,10 @@ CoverAt w ts true p q (Load c) = HasTouch Read p ts ⊎ HasTouch Write p ts
 CoverAt w ts true p q (Store c x) = HasTouch Write p ts
 CoverAt w ts true p q (Bump c x) = HasTouch Write p ts
 CoverAt w ts true p q (Add c x) = HasTouch Update p ts
-CoverAt w ts false p q (Load c) = HasTouch Write q ts ⊎ (HasTouch Update q ts ⊎ (HasDifferentiatedRead w.active q ts × (is_one_step (w.choice (name_at w.site.keys q)) ≡ false)))
-CoverAt w ts false p q (Store c x) = HasTouch Write q ts
+CoverAt w ts false p q (Load c) =
+    (HasTouch Write q ts ⊎ (HasTouch Update q ts ⊎ (HasDifferentiatedRead w.active q ts × (is_one_step (w.choice (name_at w.site.keys q)) ≡ false))))
+    × (is_reduction (w.choice (name_at w.site.keys q)) ≡ false)
+CoverAt w ts false p q (Store c x) = HasTouch Write q ts × (is_reduction (w.choice (name_at w.site.keys q)) ≡ false)
 CoverAt w ts false p q (Bump c x) = HasDifferentiatedRead w.active q ts × (is_one_step (w.choice (name_at w.site.keys q)) ≡ false)
 CoverAt w ts false p q (Add c x) = (HasTouch Read q ts ⊎ (w.choice (name_at w.site.keys q) ≡ Reduction)) × (is_one_step (w.choice (name_at w.site.keys q)) ≡ true)
 
@@ -114,6 +116,9 @@ CoverAll w ts (o ∷ os) = Cover w ts o × CoverAll w ts os
 
 -- ---- the law of a tree that undoes what led from s to s2
 
+abbrev pub AreWords : List ℕ → Type 0
+AreWords bs = (p : ℕ) → slice_index bs p < 2 ^ 64
+
 pub record Ends (w : World) (u : Use) (ts : Log) (r : Played Local) (t : Tape) (s s2 : Cells) (bs : List ℕ) : Type 0 where
   pub vs2 : List ℕ
   pub bs2 : List ℕ
@@ -122,12 +127,13 @@ pub record Ends (w : World) (u : Use) (ts : Log) (r : Played Local) (t : Tape) (
   pub like : Like u w.site.keys vs2 s
   pub wide : length vs2 ≡ length w.site.keys
   pub long : length bs2 ≡ length w.site.keys
+  pub words : AreWords bs2
   pub pairs : Same (pair bs2 (tangents u w.site.keys s)) (pair bs (tangents u w.site.keys s2))
   pub cover : CoverAll w ts r.ops
 
 abbrev pub Undoes : World → Use → Log → (Local → Tree Local) → Tape → Tape → Cells → Cells → Type 0
 Undoes w u ts f t t2 s s2 =
-    (vs bs : List ℕ) → Like u w.site.keys vs s2 → length vs ≡ length w.site.keys → length bs ≡ length w.site.keys
+    (vs bs : List ℕ) → Like u w.site.keys vs s2 → length vs ≡ length w.site.keys → length bs ≡ length w.site.keys → AreWords bs
     → Ends w u ts (play (f (local w.shared t2 vs bs)) (flat w.shared vs bs)) t s s2 bs
 
 -- of a run that ends, with the tape that its log makes
@@ -144,5 +150,3 @@ pub record Calm (w : World) (ts us : Log) : Type 0 where
   pub kinds : (k j : AccessKind) (p : ℕ) → HasTouch k p ts → HasTouch j p us → clashes k j ≡ false
   -- the reads of a name with the choice Shared are at different places, which the certificates show
   pub shared : (p : ℕ) → is_one_step (w.choice (name_at w.site.keys p)) ≡ false → HasDifferentiatedRead w.active p ts → HasDifferentiatedRead w.active p us → ⊥
-  -- a Reduction is only read
-  pub only : (k : AccessKind) (p : ℕ) → w.choice (name_at w.site.keys p) ≡ Reduction → HasTouch k p ts ⊎ HasTouch k p us → clashes k Read ≡ false

@@ -1,5 +1,5 @@
 -- What the sets of names must meet, statement by statement.
-use Rattle.std.specs.Prelude.{◌≡◌, ℕ, suc, ◌<◌, ◌≤◌, ◌^◌, ◌||◌, Bool, true, false, cond, bytes_eq, List, [], ◌∷◌, Option, Some, None}
+use Rattle.std.specs.Prelude.{◌≡◌, ℕ, suc, ◌<◌, ◌≤◌, ◌^◌, ◌||◌, ◌&&◌, Bool, true, false, cond, bytes_eq, List, [], ◌∷◌, Option, Some, None}
 use Rattle.fl_ast.specs.declared.kind.Kind.TheVariants as kind
 use Rattle.fl_ast.specs.Tree.{Expression, literal, get, minus, binary, power, call, Expressions, no_expressions, expression, Designator, Statement, assignment, branch, loop, Statements, no_statements, statement, Arms, no_arms, arm}
 use Rattle.fl_ast.specs.Occurs.{occurs_in_any}
@@ -9,12 +9,10 @@ use Rattle.fl_types.specs.Sharing.{has_name}
 use Rattle.meaning.specs.Sites.{place_of}
 use Rattle.meaning.specs.Statements.{private_names}
 use Rattle.fl_ast.specs.declared.directive.Directive.{Directive}
-use Rattle.operations.specs.Tree.{Tree}
-use Rattle.transposition.specs.Back.{loop_variables, with_collections}
+use Rattle.transposition.specs.Back.{loop_variables, rest_occurrences}
 use Rattle.fl_types.specs.Sharing.{assigns_in}
-use Rattle.transposition.specs.Worlds.{World, Local, name_at, in_turn, in_iteration}
+use Rattle.transposition.specs.Worlds.{World, is_reduction, name_at, in_turn, in_iteration}
 use Rattle.transposition.specs.Spread.{occurrences}
-use Rattle.transposition.specs.Back.{rest_occurrences}
 use Rattle.transposition.specs.Law.{Use}
 use Rattle.transposition.specs.Calms.{AreFlat}
 use Rattle.transposition.specs.Needs.{Needs, NeedsAll, NeedsEach, Quiet, Kinded}
@@ -40,6 +38,8 @@ pub record SoundTarget (w : World) (u : Use) (p : Designator) : Type 0 where
   pub pushed : u.needed p.name ≡ true → w.site.pushed p.name ≡ true
   pub live : u.live p.name ≡ w.active p.name
   pub ring : w.active p.name ≡ true → w.site.ring p.name ≡ true
+  -- additions to a Reduction's adjoint are collected, so nothing else may be made of it
+  pub summed : w.active p.name ≡ true → is_reduction (w.choice p.name) ≡ false
 
 pub record SoundPlain (w : World) (u : Use) (p : Designator) (e : Expression) : Type 0 where
   pub target : SoundTarget w u p
@@ -158,6 +158,17 @@ AllOwn w (x ∷ xs) = Own w x × AllOwn w xs
 abbrev pub privates_of : World → Directive → List ℕ → Statements → List (List ℕ)
 privates_of w directive var tree = private_names w.site directive var tree
 
+-- a scalar with a place that all iterations share
+pub record Common (w : World) (x : List ℕ) : Type 0 where
+  pub q : ℕ
+  pub place : place_of w.site x [] ≡ Some q
+  pub shared : q < w.shared
+
+-- the names with the choice Reduction are
+abbrev pub AllSummed : World → List (List ℕ) → Type 0
+AllSummed w [] = Unit {0}
+AllSummed w (x ∷ xs) = ((w.active x && is_reduction (w.choice x)) ≡ true → Common w x) × AllSummed w xs
+
 -- what a parallel loop's names must meet; u inside is `inner`
 pub record SoundRounds (w : World) (u inner : Use) (number : ℕ) (directive : Directive) (var : List ℕ) (tree : Statements) : Type 0 where
   -- the loops' variables, of the index kind, which the iterations don't set
@@ -181,8 +192,7 @@ pub record SoundRounds (w : World) (u inner : Use) (number : ℕ) (directive : D
   -- in the loop each place's name makes touches, and outside none does
   pub inside : (p : ℕ) → p < w.shared → (in_iteration w number directive var tree).site.accessed (name_at w.site.keys p) ≡ true
   pub silent : (x : List ℕ) → w.site.accessed x ≡ false
-  -- no name has the choice Reduction
-  pub plain : (t : Tree Local) → with_collections (in_iteration w number directive var tree) w.site.declared t ≡ t
+  pub summed : AllSummed (in_iteration w number directive var tree) w.site.declared
 
 abbrev pub HeadLiterals : Option Head → Type 0
 HeadLiterals None = Unit {0}

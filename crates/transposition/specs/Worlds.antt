@@ -60,6 +60,11 @@ is_one_step Shared = false
 is_one_step Atomic = true
 is_one_step Reduction = true
 
+abbrev pub is_reduction : Choice → Bool
+is_reduction Reduction = true
+is_reduction Shared = false
+is_reduction Atomic = false
+
 abbrev pub increment_adjoint : World → Choice → ℕ → ℕ → Local → Tree Local
 increment_adjoint w c p a l = cond (nat_lt p w.shared) (addition (is_one_step c) (w.shared + p) a l) (done (with_adjoint w p (ring_add (slice_index l.adjoints (p - w.shared)) a) l))
 
