@@ -35,25 +35,39 @@ log_at f s n = inner_of (f n (state_at f s n)).log
 abbrev pub iteration_log : Site → Directive → List ℕ → Heads → Statements → Cells → ℕ → Log
 iteration_log site directive var heads body s i = log_at (one_iteration site directive var heads body (run_all (iteration_body directive body))) s i
 
+-- what two iterations tell, in the world of their loop
+abbrev pub OfLogs : Type 1
+OfLogs = World → Log → Log → Type 0
+
 abbrev mutual
-  pub IsCalm : Statement → World → Cells → Type 0
-  IsCalm (assignment line atomic p e) w s = Unit {0}
-  IsCalm (branch line arms other) w s = IsCalmArms arms (IsCalmAll other w s) w s
-  IsCalm (loop line number None var first last step body) w s =
+  -- any two iterations of each parallel loop that runs are so
+  pub Pairwise : OfLogs → Statement → World → Cells → Type 0
+  Pairwise P (assignment line atomic p e) w s = Unit {0}
+  Pairwise P (branch line arms other) w s = PairwiseArms P arms (PairwiseAll P other w s) w s
+  Pairwise P (loop line number None var first last step body) w s =
       (t : IterationCount) → (turns_of first last step w.site s).out ≡ Ok t → (k : ℕ) → k < t.count → (s1 : Cells) → (turns k (one_turn w.site var t (run_all body)) s).out ≡ Ok s1
-      → IsCalmAll body (in_turn w var) (set_at (place_of w.site var []) (Some (Index (value_at t k))) s1)
-  IsCalm (loop line number (Some directive) var first last step body) w s =
+      → PairwiseAll P body (in_turn w var) (set_at (place_of w.site var []) (Some (Index (value_at t k))) s1)
+  Pairwise P (loop line number (Some directive) var first last step body) w s =
       (heads : Heads) → (heads_of (record { line = line; var = var; first = first; last = last; step = step }) (further_head directive body) w.site s).out ≡ Ok heads
       → (i j : ℕ) → i < iterations heads → j < iterations heads → i ≢ j
-      → Calm (in_iteration w number directive var body) (iteration_log w.site directive var heads body s i) (iteration_log w.site directive var heads body s j)
+      → P (in_iteration w number directive var body) (iteration_log w.site directive var heads body s i) (iteration_log w.site directive var heads body s j)
 
-  pub IsCalmAll : Statements → World → Cells → Type 0
-  IsCalmAll no_statements w s = Unit {0}
-  IsCalmAll (statement x xs) w s = IsCalm x w s × ((s1 : Cells) → (run x w.site s).out ≡ Ok s1 → IsCalmAll xs w s1)
+  pub PairwiseAll : OfLogs → Statements → World → Cells → Type 0
+  PairwiseAll P no_statements w s = Unit {0}
+  PairwiseAll P (statement x xs) w s = Pairwise P x w s × ((s1 : Cells) → (run x w.site s).out ≡ Ok s1 → PairwiseAll P xs w s1)
 
-  pub IsCalmArms : Arms → Type 0 → World → Cells → Type 0
-  IsCalmArms no_arms C w s = C
-  IsCalmArms (arm test body arms) C w s = (p : Bool) → (holds test w.site s).out ≡ Ok p → cond p (IsCalmAll body w s) (IsCalmArms arms C w s)
+  pub PairwiseArms : OfLogs → Arms → Type 0 → World → Cells → Type 0
+  PairwiseArms P no_arms C w s = C
+  PairwiseArms P (arm test body arms) C w s = (p : Bool) → (holds test w.site s).out ≡ Ok p → cond p (PairwiseAll P body w s) (PairwiseArms P arms C w s)
+
+abbrev pub IsCalm : Statement → World → Cells → Type 0
+IsCalm x w s = Pairwise Calm x w s
+
+abbrev pub IsCalmAll : Statements → World → Cells → Type 0
+IsCalmAll xs w s = PairwiseAll Calm xs w s
+
+abbrev pub IsCalmArms : Arms → Type 0 → World → Cells → Type 0
+IsCalmArms arms C w s = PairwiseArms Calm arms C w s
 
 -- without parallel loops, as the body of one is
 abbrev mutual

@@ -136,17 +136,16 @@ Undoes w u ts f t t2 s s2 =
     (vs bs : List ℕ) → Like u w.site.keys vs s2 → length vs ≡ length w.site.keys → length bs ≡ length w.site.keys → AreWords bs
     → Ends w u ts (play (f (local w.shared t2 vs bs)) (flat w.shared vs bs)) t s s2 bs
 
--- of a run that ends, with the tape that its log makes
-abbrev pub UndoesEnd : {X : Type 0} → World → Use → Log → (Local → Tree Local) → Tape → Cells → Log → Result Cells X → Type 0
-UndoesEnd w u ts f t s l (Ok s2) = Undoes w u ts f t (tape_after l t) s s2
-UndoesEnd w u ts f t s l (Err x) = Unit {0}
-
-abbrev pub UndoesTraced : {X : Type 0} → World → Use → Log → (Local → Tree Local) → Tape → Cells → Traced X Cells → Type 0
-UndoesTraced w u ts f t s r = UndoesEnd w u ts f t s r.log r.out
-
 -- ---- iterations that don't conflict
 
+-- no kinds of touches at one place conflict
+abbrev pub KindsApart : World → Log → Log → Type 0
+KindsApart w ts us = (k j : AccessKind) (p : ℕ) → HasTouch k p ts → HasTouch j p us → clashes k j ≡ false
+
+-- the reads of a name with the choice Shared are at different places, which the certificates show
+abbrev pub SharedApart : World → Log → Log → Type 0
+SharedApart w ts us = (p : ℕ) → is_one_step (w.choice (name_at w.site.keys p)) ≡ false → HasDifferentiatedRead w.active p ts → HasDifferentiatedRead w.active p us → ⊥
+
 pub record Calm (w : World) (ts us : Log) : Type 0 where
-  pub kinds : (k j : AccessKind) (p : ℕ) → HasTouch k p ts → HasTouch j p us → clashes k j ≡ false
-  -- the reads of a name with the choice Shared are at different places, which the certificates show
-  pub shared : (p : ℕ) → is_one_step (w.choice (name_at w.site.keys p)) ≡ false → HasDifferentiatedRead w.active p ts → HasDifferentiatedRead w.active p us → ⊥
+  pub kinds : KindsApart w ts us
+  pub shared : SharedApart w ts us
