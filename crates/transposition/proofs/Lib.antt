@@ -31,3 +31,5 @@ mod Premises
 mod Squares
 pub mod Words
 pub mod Collections
+pub mod PlainLogs
+pub mod Passing

@@ -45,7 +45,7 @@ use Rattle.transposition.proofs.Nesting.{body_run, body_back}
 use Rattle.fl_types.specs.Nests.{Head, is_nest, further_head, iteration_body, inner_body, statements_in}
 
 -- the run of a parallel loop: its heads, its iterations, and its words
-record ParallelRun (w : World) (line : ℕ) (d : Head) (directive : Directive) (body : Statements) (s s2 : Cells) : Type 0 where
+pub record ParallelRun (w : World) (line : ℕ) (d : Head) (directive : Directive) (body : Statements) (s s2 : Cells) : Type 0 where
   pub heads : Heads
   pub counts : (heads_of d (further_head directive body) w.site s).out ≡ Ok heads
   pub last : Cells
@@ -68,11 +68,11 @@ parallel_parts w line d directive body s s2 h =
     }
 
 -- by the statements of an iteration
-by_body : (w : World) (line : ℕ) (d : Head) (directive : Directive) (body : Statements) (s : Cells) → (heads_of d (further_head directive body) w.site s >>= (λ heads. run_parallel line directive d.var body (if is_nest directive body then run_inner body else run_all body) w.site heads s))
+pub by_body : (w : World) (line : ℕ) (d : Head) (directive : Directive) (body : Statements) (s : Cells) → (heads_of d (further_head directive body) w.site s >>= (λ heads. run_parallel line directive d.var body (if is_nest directive body then run_inner body else run_all body) w.site heads s))
     ≡ (heads_of d (further_head directive body) w.site s >>= (λ heads. run_parallel line directive d.var body (run_all (iteration_body directive body)) w.site heads s))
 by_body w line d directive body s = ap (λ (f : Site → Run). heads_of d (further_head directive body) w.site s >>= (λ heads. run_parallel line directive d.var body f w.site heads s)) (body_run (is_nest directive body) body)
 
-parallel_run : (w : World) (line : ℕ) (d : Head) (directive : Directive) (body : Statements) (s s2 : Cells) → (heads_of d (further_head directive body) w.site s >>= (λ heads. run_parallel line directive d.var body (if is_nest directive body then run_inner body else run_all body) w.site heads s)).out ≡ Ok s2 → ParallelRun w line d directive body s s2
+pub parallel_run : (w : World) (line : ℕ) (d : Head) (directive : Directive) (body : Statements) (s s2 : Cells) → (heads_of d (further_head directive body) w.site s >>= (λ heads. run_parallel line directive d.var body (if is_nest directive body then run_inner body else run_all body) w.site heads s)).out ≡ Ok s2 → ParallelRun w line d directive body s s2
 parallel_run w line d directive body s s2 h = parallel_parts w line d directive body s s2 (ap (λ (t : Traced TrapAt Cells). t.out) (sym (by_body w line d directive body s)) ∙ h)
 
 kept_none : (w : World) (u : Use) (s s2 : Cells) → Fit w u s → (run_all no_statements w.site s).out ≡ Ok s2 → Keeps w u (λ y. false) s s2

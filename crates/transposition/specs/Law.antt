@@ -1,5 +1,5 @@
 -- What the law of the reverse part says of a run and of the tree that undoes it.
-use Rattle.std.specs.Prelude.{◌≡◌, ◌⊎◌, ℕ, ◌-◌, ◌<◌, ◌≤◌, ◌^◌, Bool, true, false, cond, nat_lt, List, [], ◌∷◌, ◌++◌, map, take, drop, length, Some, Result, Ok, Err, slice_index}
+use Rattle.std.specs.Prelude.{◌≡◌, ◌⊎◌, ℕ, ◌-◌, ◌<◌, ◌≤◌, ◌^◌, Bool, true, false, cond, nat_lt, List, [], ◌∷◌, ◌++◌, map, take, drop, length, Some, slice_index}
 use Rattle.ring_core.specs.Index.{IsIndex}
 use Rattle.pairing.specs.Ring.{Same}
 use Rattle.pairing.specs.Pair.{pair, live}
@@ -14,12 +14,12 @@ use Rattle.operations.specs.Ops.{cell_of}
 use Rattle.operations.specs.Tree.{Tree, Played, play}
 use Rattle.meaning.specs.declared.value.Value.{Value}
 use Rattle.meaning.specs.declared.value.Value.TheVariants.{Index, Ring}
-use Rattle.meaning.specs.Logs.{Log, silence, single, touched, sets, both, within, instance, right_side, rounds, turn, iteration, condition, taken, Traced}
+use Rattle.meaning.specs.Logs.{Log, silence, single, touched, sets, both, within, instance, right_side, rounds, turn, iteration, condition, taken}
 use Rattle.meaning.specs.Sites.{Key, Cells, kind_of, word_of}
 use Rattle.meaning.specs.Expressions.{content}
 use Rattle.meaning.specs.Adjoints.{tangent_of}
 use Rattle.meaning.specs.Conflicts.{clashes}
-use Rattle.transposition.specs.Tapes.{Tape, tape_after}
+use Rattle.transposition.specs.Tapes.{Tape}
 use Rattle.transposition.specs.Worlds.{World, Local, is_one_step, is_reduction, name_at}
 
 -- names in scope whose values the reverse part reads, whose adjoints count, and whose tangents may differ from 0

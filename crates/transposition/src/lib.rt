@@ -3,4 +3,4 @@
 
 mod laws;
 
-pub use laws::reverse_is_transposed;
+pub use laws::{reverse_is_transposed, unstopped_is_calm};
