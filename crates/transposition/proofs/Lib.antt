@@ -33,3 +33,4 @@ pub mod Words
 pub mod Collections
 pub mod PlainLogs
 pub mod Passing
+pub mod Orderly

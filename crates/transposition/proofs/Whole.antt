@@ -78,11 +78,11 @@ parallel_run w line d directive body s s2 h = parallel_parts w line d directive 
 kept_none : (w : World) (u : Use) (s s2 : Cells) → Fit w u s → (run_all no_statements w.site s).out ≡ Ok s2 → Keeps w u (λ y. false) s s2
 kept_none w u s s2 fit h = let e : s ≡ s2 = cc in subst (λ (x : Cells). Keeps w u (λ y. false) s x) e (keeps_itself w u (λ y. false) s fit)
 
-kept_body : (b : Bool) (tree : Statements) (w : World) (u : Use) → cond b (SoundInner w u tree) (SoundAll w u tree) → (SoundAll w u tree → KeptBody w u tree) → (SoundInner w u tree → KeptBody w u (inner_body tree)) → KeptBody w u (if b then inner_body tree else tree)
+pub kept_body : (b : Bool) (tree : Statements) (w : World) (u : Use) → cond b (SoundInner w u tree) (SoundAll w u tree) → (SoundAll w u tree → KeptBody w u tree) → (SoundInner w u tree → KeptBody w u (inner_body tree)) → KeptBody w u (if b then inner_body tree else tree)
 kept_body true tree w u q f g = g q
 kept_body false tree w u q f g = f q
 
-sound_undone : (b : Bool) (tree : Statements) (w : World) (u : Use) → cond b (SoundInner w u tree) (SoundAll w u tree) → (SoundAll w u tree → (s : Cells) → UndoneBody w u tree s) → (SoundInner w u tree → (s : Cells) → UndoneBody w u (inner_body tree) s) → (s : Cells) → UndoneBody w u (if b then inner_body tree else tree) s
+pub sound_undone : (b : Bool) (tree : Statements) (w : World) (u : Use) → cond b (SoundInner w u tree) (SoundAll w u tree) → (SoundAll w u tree → (s : Cells) → UndoneBody w u tree s) → (SoundInner w u tree → (s : Cells) → UndoneBody w u (inner_body tree) s) → (s : Cells) → UndoneBody w u (if b then inner_body tree else tree) s
 sound_undone true tree w u q f g = g q
 sound_undone false tree w u q f g = f q
 
@@ -128,7 +128,7 @@ mutual
       keeps_both w u (λ y. writes y x) (λ y. writes_in y xs) s b.a s2 one (kept_all xs w u b.a s2 one.fit sound.1 b.second)
 
   -- the loop in a body
-  kept_inner : (xs : Statements) (w : World) (u : Use) (s s2 : Cells) → Fit w u s → SoundInner w u xs → (run_all (inner_body xs) w.site s).out ≡ Ok s2 → Keeps w u (λ y. writes_in y (inner_body xs)) s s2
+  pub kept_inner : (xs : Statements) (w : World) (u : Use) (s s2 : Cells) → Fit w u s → SoundInner w u xs → (run_all (inner_body xs) w.site s).out ≡ Ok s2 → Keeps w u (λ y. writes_in y (inner_body xs)) s s2
   kept_inner no_statements w u s s2 fit sound h = kept_none w u s s2 fit h
   kept_inner (statement x xs) w u s s2 fit sound h = kept_within x w u s s2 fit sound h
 
@@ -187,7 +187,7 @@ mutual
   flat_one (loop line number None var first last step body) w s h = λ t e k i s1 f. flat_calm body (in_turn w var) _ h
   flat_one (loop line number (Some directive) var first last step body) w s h = absurd h
 
-  flat_calm : (xs : Statements) (w : World) (s : Cells) → AreFlat xs → IsCalmAll xs w s
+  pub flat_calm : (xs : Statements) (w : World) (s : Cells) → AreFlat xs → IsCalmAll xs w s
   flat_calm no_statements w s h = tt
   flat_calm (statement x xs) w s h = (flat_one x w s h.0, λ s1 e. flat_calm xs w s1 h.1)
 
@@ -292,7 +292,7 @@ mutual
       undone_tape w u ts (back_all (statement x xs) w) t _ _ s s2 (ap (λ (l : Log). tape_after l t) (sym b.log)) (undone_both w u ts (back x w) (back_all xs w) t (tape_after (run x w.site s).log t) _ s b.a s2 first second)
 
   -- the loop in a body
-  undone_inner : (xs : Statements) (w : World) (u : Use) (ts : Log) (s s2 : Cells) (t : Tape) → Fit w u s → SoundInner w u xs → AreFlat xs → Within w.active (run_all (inner_body xs) w.site s).log ts → (run_all (inner_body xs) w.site s).out ≡ Ok s2
+  pub undone_inner : (xs : Statements) (w : World) (u : Use) (ts : Log) (s s2 : Cells) (t : Tape) → Fit w u s → SoundInner w u xs → AreFlat xs → Within w.active (run_all (inner_body xs) w.site s).log ts → (run_all (inner_body xs) w.site s).out ≡ Ok s2
       → Undoes w u ts (back_all (inner_body xs) w) t (tape_after (run_all (inner_body xs) w.site s).log t) s s2
   undone_inner no_statements w u ts s s2 t fit sound calm ins h = undone_none w u ts t s s2 (let e : s ≡ s2 = cc in e)
   undone_inner (statement x xs) w u ts s s2 t fit sound calm ins h = undone_within x w u ts s s2 t fit sound calm.0 ins h

@@ -149,13 +149,23 @@ iteration_tree w number directive var tree heads ts body l k =
     let v = in_iteration w number directive var tree in
     with_collections v w.site.declared (body v (iteration_local w directive var tree heads ts l k))
 
+-- the loops' bounds, and what is below their words
+abbrev pub loop_heads : Directive → List ℕ → Statements → Local → Heads
+loop_heads directive var tree l = heads_on (loop_variables directive var tree) l.tape
+
+abbrev pub below_heads : Directive → List ℕ → Statements → Local → Local
+below_heads directive var tree l = record l { tape = below_bounds (loop_variables directive var tree) l.tape }
+
+-- the iterations of a loop whose words are on top of the tape
+abbrev pub loop_iterations : World → ℕ → Directive → List ℕ → Statements → (World → Local → Tree Local) → Local → ℕ → Tree Local
+loop_iterations w number directive var tree body l =
+    let m = below_heads directive var tree l in
+    iteration_tree w number directive var tree (loop_heads directive var tree l) (top_tapes m.tape) body m
+
 -- the iterations in ascending order, each from its own tape
 abbrev pub parallel_back : World → ℕ → Directive → List ℕ → Statements → (World → Local → Tree Local) → Local → Tree Local
 parallel_back w number directive var tree body l =
-    let xs = loop_variables directive var tree in
-    let heads = heads_on xs l.tape in
-    let m = record l { tape = below_bounds xs l.tape } in
-    rounds (iteration_tree w number directive var tree heads (top_tapes m.tape) body m) (iterations heads) giving (λ _. done (after_pop m))
+    rounds (loop_iterations w number directive var tree body l) (iterations (loop_heads directive var tree l)) giving (λ _. done (after_pop (below_heads directive var tree l)))
 
 -- ---- statements
 

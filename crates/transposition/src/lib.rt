@@ -3,4 +3,6 @@
 
 mod laws;
 
-pub use laws::{reverse_is_transposed, unstopped_is_calm};
+pub use laws::{
+    iterations_are_disciplined, reverse_is_transposed, statements_are_undone, unstopped_is_calm,
+};
