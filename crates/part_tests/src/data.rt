@@ -86,7 +86,8 @@ fn answer(alloc: Global) -> Result<Answer, Fail> {
 #[test]
 fn answers_are_compact_and_signed(rt: HostRuntime) -> Result<(), Fail> {
     let text = write_answer(rt.alloc(), &answer(rt.alloc())?)?;
-    let due = "{\"adds\":0,\"adjoint\":{\"y\":7},\"choices\":[\"1:x:atomic\"],\"race\":null,\"value\":{\"y\":-1}}";
+    let due =
+        "{\"adds\":0,\"adjoint\":{\"y\":7},\"choices\":[\"1:x:atomic\"],\"race\":null,\"value\":{\"y\":-1}}";
     assert_eq!(rt; text.as_slice(), due.as_bytes());
     Ok(())
 }

@@ -3,7 +3,11 @@
 #![tactic(auto)]
 
 #[cfg(test)]
+mod adjoints;
+#[cfg(test)]
 mod data;
+#[cfg(test)]
+mod lexer;
 #[cfg(test)]
 mod programs;
 #[cfg(test)]
