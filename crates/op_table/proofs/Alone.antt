@@ -57,3 +57,29 @@ blank_one k x y false e = rw e refl
 pub blank_advance : (k : ℕ) (es : List (ℕ × ℕ)) → rewound k (advance k es) ≡ rewound k es
 blank_advance k [] = refl
 blank_advance k (e ∷ es) = λ i. (e.0, blank_one k e.0 e.1 (k == e.0) refl i) ∷ blank_advance k es i
+
+lists_rewound : (j k : ℕ) (es : List (ℕ × ℕ)) → lists j (rewound k es) ≡ lists j es
+lists_rewound j k [] = refl
+lists_rewound j k (e ∷ es) = ap (λ (b : Bool). (j == e.0) || b) (lists_rewound j k es)
+
+position_one : (j k x y m n : ℕ) (b c : Bool) → (j == x) ≡ b → (k == x) ≡ c → j ≢ k → m ≡ n → (if j == x then (if k == x then 0 else y) else m) ≡ (if j == x then y else n)
+position_one j k x y m n true true tj tk ne e = absurd (ne (eqb-true j x tj ∙ sym (eqb-true k x tk)))
+position_one j k x y m n true false tj tk ne e = rw tj (rw tk refl)
+position_one j k x y m n false c tj tk ne e = rw tj e
+
+position_rewound : (j k : ℕ) (es : List (ℕ × ℕ)) → j ≢ k → position_of j (rewound k es) ≡ position_of j es
+position_rewound j k [] ne = refl
+position_rewound j k (e ∷ es) ne = position_one j k e.0 e.1 (position_of j (rewound k es)) (position_of j es) (j == e.0) (k == e.0) refl refl ne (position_rewound j k es ne)
+
+-- two lists that differ at most in the position of one chunk
+pub same_lists : (k : ℕ) (xs ys : List (ℕ × ℕ)) → rewound k xs ≡ rewound k ys → (j : ℕ) → lists j xs ≡ lists j ys
+same_lists k xs ys b j = sym (lists_rewound j k xs) ∙ (ap (lists j) b ∙ lists_rewound j k ys)
+
+pub same_position : (k : ℕ) (xs ys : List (ℕ × ℕ)) → rewound k xs ≡ rewound k ys → (j : ℕ) → j ≢ k → position_of j xs ≡ position_of j ys
+same_position k xs ys b j ne = sym (position_rewound j k xs ne) ∙ (ap (position_of j) b ∙ position_rewound j k ys ne)
+
+-- with nothing due, a chunk is at its end
+pub at_end : (os : List Op) (i : ℕ) → drop i os ≡ [] → length os ≤ i
+at_end [] i e = omega arith
+at_end (o ∷ os) zero e = absurd (let f : o ∷ os ≡ [] = e in cc)
+at_end (o ∷ os) (suc i) e = let h = at_end os i e in omega arith

@@ -1,5 +1,5 @@
 -- What each call on the table asks for.
-use Rattle.std.proofs.Common.{◌≡◌, ◌≢◌, ℕ, suc, ◌+◌, ◌%◌, ◌^◌, ◌<◌, ◌==◌, true, List, ◌∷◌, length, take, if◌then◌else◌, ◌⊎◌, inl, inr, ⊎_elim, refl, sym, ap, ◌∙◌, subst, arith, eq-eqb, length-set}
+use Rattle.std.proofs.Common.{◌≡◌, ◌≢◌, ℕ, suc, ◌+◌, ◌%◌, ◌^◌, ◌<◌, true, List, ◌∷◌, length, ◌⊎◌, inl, inr, ⊎_elim, refl, sym, ap, ◌∙◌, subst, arith, length-set}
 use Rattle.std.specs.Prelude.{slice_index, slice_set}
 use mathlib.Core.Option.{some}
 use lib.ListN.{get_elem?}
@@ -8,7 +8,7 @@ use Rattle.atomic_table.proofs.Lists.{set_again}
 use Rattle.operations.specs.declared.op.Op.TheVariants.{Load, Store, Bump, Add}
 use Rattle.op_table.specs.declared.view.View.{View}
 use Rattle.ring_core.specs.Ring.{ring_add}
-use Rattle.op_table.specs.Rule.{view, lists, position_of, Work, cell_word, claim_word, IsKept}
+use Rattle.op_table.specs.Rule.{view, lists, Work, cell_word, claim_word, IsKept}
 use Rattle.atomic_table.specs.Table.{Me}
 use Rattle.op_table.specs.Plays.{IsNext, cells_alone, view_after, IsLoad, IsMove, IsSwap}
 use Rattle.op_table.proofs.Rule.{goes_on, word_alone, word_else}

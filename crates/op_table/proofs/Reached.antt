@@ -1,13 +1,12 @@
 -- A table between two steps shows a state that the machine reaches.
-use Rattle.std.proofs.Common.{◌≡◌, ◌≢◌, ℕ, zero, suc, ◌<◌, ◌==◌, Bool, true, false, List, length, if◌then◌else◌, ◌⊎◌, ⊎_elim, refl, sym, ap, ◌∙◌, subst, arith, true≢false, Option, Some, None, eq-eqb, ne_eqb, eqb-true}
-use Rattle.std.specs.Prelude.{slice_index}
+use Rattle.std.proofs.Common.{◌≡◌, ◌≢◌, ℕ, ◌==◌, Bool, true, false, if◌then◌else◌, ⊎_elim, refl, sym, ap, ◌∙◌, arith, true≢false, Option, Some, None, eq-eqb, eqb-true}
 use mathlib.Core.Option.{some}
 use lib.ListN.{get_elem?}
 use Rattle.atomic_table.specs.Table.{State}
 use Rattle.operations.specs.Order.{joint_cells}
 use Rattle.operations.proofs.Reached.{reached}
 use Rattle.op_table.specs.declared.view.View.{View}
-use Rattle.op_table.specs.Rule.{Work, lists, position_of, cell_word, claim_word, IsKept}
+use Rattle.op_table.specs.Rule.{Work, lists, claim_word, IsKept}
 use Rattle.op_table.specs.Shown.{IsShown}
 use Rattle.op_table.proofs.Rule.{length_joint}
 

@@ -7,15 +7,14 @@ use native.Mathlib.Decide.{ℕ_discrete}
 use lib.ListN.{get_elem?}
 use Rattle.atomic_table.proofs.Lists.{at_set, at_snoc, set_here, set_else}
 use Rattle.op_table.specs.declared.view.View.{View}
-use Rattle.op_table.specs.Rule.{view, lists, position_of, is_in, parts_of, Work, IsSound, cell_word, claim_word, IsSeated, IsKept}
+use Rattle.op_table.specs.Rule.{view, lists, position_of, is_in, parts_of, Work, IsSound, claim_word, IsSeated, IsKept}
 use Rattle.std.specs.Prelude.{replicate}
 use Rattle.std.proofs.Common.{length-append, get_or-append-add}
 use Rattle.std.proofs.lemmas.List.{length-replicate}
 use Rattle.atomic_table.specs.Table.{opening, Final, Seen, Splits, Joins}
 use Rattle.atomic_table.proofs.Lists.{at_longer}
-use Rattle.operations.specs.declared.op.Op.{Op}
 use Rattle.operations.specs.Ops.{acts_all}
-use Rattle.operations.specs.Order.{in_order, joint_cells}
+use Rattle.operations.specs.Order.{in_order}
 use Rattle.operations.proofs.Orders.{joint_start, joint_end}
 use Rattle.operations.proofs.Dues.{length_acts_all}
 use Rattle.std.proofs.lemmas.List.{ext_get_or}
@@ -68,14 +67,14 @@ splits d id v left right empty l r sum s h me =
       parts = let t = parts_set s.views id v left me in let q = parts_snoc (set s.views id left) right in let p = h.parts in omega arith;
     }
 
-lists-append : (k : ℕ) (xs ys : List (ℕ × ℕ)) → lists k (xs ++ ys) ≡ (lists k xs || lists k ys)
+pub lists-append : (k : ℕ) (xs ys : List (ℕ × ℕ)) → lists k (xs ++ ys) ≡ (lists k xs || lists k ys)
 lists-append k [] ys = refl
 lists-append k (x ∷ xs) ys = ap (λ (b : Bool). (k == x.0) || b) (lists-append k xs ys) ∙ or_assoc (k == x.0) (lists k xs) (lists k ys)
   where
     or_assoc : (a b c : Bool) → (a || (b || c)) ≡ ((a || b) || c)
     or_assoc a b c = grind arith
 
-position_first : (k : ℕ) (xs ys : List (ℕ × ℕ)) → lists k xs ≡ true → position_of k (xs ++ ys) ≡ position_of k xs
+pub position_first : (k : ℕ) (xs ys : List (ℕ × ℕ)) → lists k xs ≡ true → position_of k (xs ++ ys) ≡ position_of k xs
 position_first k [] ys l = absurd (true≢false (sym l))
 position_first k (x ∷ xs) ys l = first_case (k == x.0) (position_of k (xs ++ ys)) (position_of k xs) x.1 (λ f. position_first k xs ys (or_second (k == x.0) (lists k xs) f l))
   where
@@ -86,7 +85,7 @@ position_first k (x ∷ xs) ys l = first_case (k == x.0) (position_of k (xs ++ y
     or_second : (a b : Bool) → a ≡ false → (a || b) ≡ true → b ≡ true
     or_second a b f h = grind arith
 
-position_second : (k : ℕ) (xs ys : List (ℕ × ℕ)) → lists k xs ≡ false → position_of k (xs ++ ys) ≡ position_of k ys
+pub position_second : (k : ℕ) (xs ys : List (ℕ × ℕ)) → lists k xs ≡ false → position_of k (xs ++ ys) ≡ position_of k ys
 position_second k [] ys l = refl
 position_second k (x ∷ xs) ys l = let f : (k == x.0) ≡ false = or_left (k == x.0) (lists k xs) l in rw f (position_second k xs ys (or_right (k == x.0) (lists k xs) l))
 
