@@ -173,14 +173,14 @@ joint_alone ops m (suc n) at k o rest c d le lt e a = dite (ℕ_discrete k n)
 -- ---- any order of steps
 
 -- where a bump is next, the last load gave what its cell has
-abbrev Ready : ℕ → List ℕ → List Op → Type 0
+abbrev pub Ready : ℕ → List ℕ → List Op → Type 0
 Ready l c [] = Unit {0}
 Ready l c (Load p ∷ os) = FollowsLoad p os
 Ready l c (Store p v ∷ os) = Follows os
 Ready l c (Bump p a ∷ os) = (l ≡ slice_index c p) × Follows os
 Ready l c (Add p a ∷ os) = Follows os
 
-ready_follows : (l : ℕ) (c : List ℕ) (os : List Op) → Follows os → Ready l c os
+pub ready_follows : (l : ℕ) (c : List ℕ) (os : List Op) → Follows os → Ready l c os
 ready_follows l c [] h = tt
 ready_follows l c (Load p ∷ os) h = h
 ready_follows l c (Store p v ∷ os) h = h
@@ -194,14 +194,14 @@ ready_loaded p c (Store q v ∷ os) h = h
 ready_loaded p c (Bump q a ∷ os) h = (ap (slice_index c) (sym h.0), h.1)
 ready_loaded p c (Add q a ∷ os) h = h
 
-ready_next : (l : ℕ) (c : List ℕ) (o : Op) (os : List Op) → Ready l c (o ∷ os) → Ready (last_by o l c) (cells_by o l c) os
+pub ready_next : (l : ℕ) (c : List ℕ) (o : Op) (os : List Op) → Ready l c (o ∷ os) → Ready (last_by o l c) (cells_by o l c) os
 ready_next l c (Load p) os h = ready_loaded p c os h
 ready_next l c (Store p v) os h = ready_follows l (slice_set c p v) os h
 ready_next l c (Bump p a) os h = ready_follows l (slice_set c p (ring_add l a)) os h.1
 ready_next l c (Add p a) os h = ready_follows l (slice_set c p (ring_add (slice_index c p) a)) os h
 
 -- the machine's bump adds
-made : (l : ℕ) (c : List ℕ) (o : Op) (os : List Op) → Ready l c (o ∷ os) → cells_by o l c ≡ acts o c
+pub made : (l : ℕ) (c : List ℕ) (o : Op) (os : List Op) → Ready l c (o ∷ os) → cells_by o l c ≡ acts o c
 made l c (Load p) os h = refl
 made l c (Store p v) os h = refl
 made l c (Bump p a) os h = ap (λ x. slice_set c p (ring_add x a)) h.0

@@ -1,0 +1,6 @@
+pub mod Rule
+pub mod Claims
+pub mod Moves
+pub mod Seats
+pub mod Alone
+pub mod Reached
