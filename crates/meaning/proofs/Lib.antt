@@ -43,3 +43,4 @@ pub mod RightSides
 pub mod GroupPieces
 pub mod GroupTouching
 pub mod Layouts
+pub mod Parts
