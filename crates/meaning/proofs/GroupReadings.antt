@@ -22,7 +22,8 @@ use Rattle.meaning.specs.Statements.{Run, with_log, content_at, turns_of, value_
 use Rattle.meaning.specs.Sequential.{is_sequential, are_sequential, are_arms_sequential}
 use Rattle.meaning.specs.Touches.{scope_at, touch_of}
 use Rattle.meaning.specs.Reached.{cells_with, cells_with_heads}
-use Rattle.meaning.specs.Groups.{Group, group_at, assignment_group, groups_from, groups_of_turns, groups_of, groups_of_all, groups_of_arms, touches_of_groups, iteration_of, groups_of_iteration}
+use Rattle.meaning.proofs.Parts.{bound}
+use Rattle.meaning.specs.Groups.{touches_from, touches_of_iterations, Group, group_at, assignment_group, groups_from, groups_of_turns, groups_of, groups_of_all, groups_of_arms, touches_of_groups, iteration_of, groups_of_iteration}
 
 pub append_nil : {A : Type 0} (xs : List A) → xs ++ [] ≡ xs
 append_nil [] = refl
@@ -303,3 +304,17 @@ module _ (read : ℕ → Log → List Touch) (part : Group → List Occurrence) 
       ∙ continuation_unseen (both (unset_log s names) t.log) t.out (λ b. with_log (private_words s l.body names b) b) gs
       (λ b j. after_unseen (unset_log s names) t.log gs (unset_unseen s names) (variables_told s hs k f a gs (body_told (is_nest l.directive l.body) l.body here q (cells_with_heads s hs k a)) b j))
       (λ b. words_unseen s l.body names b) d e k
+
+  pub iterations_read : (s : Site) (l : ParallelLoop) (hs : Heads) → are_sequential (iteration_body l.directive l.body) ≡ true → (n : ℕ) (c d : Cells) → (turns n (iteration_of s l hs) c).out ≡ Ok d → (i : ℕ)
+      → map Some (read i (turns n (iteration_of s l hs) c).log) ≡ touches_of_iterations part s l hs n c
+  iterations_read s l hs q zero c d h i = ap (map Some) (w.nothing i)
+  iterations_read s l hs q (suc n) c d h i =
+      let f : ℕ → Run = iteration_of s l hs in
+      let b = bound (turns n f c) (f n) d h in
+      let before : List (Option Touch) = touches_of_iterations part s l hs n c in
+      ap (λ (a : Log). map Some (read i a)) b.log
+      ∙ (ap (map Some) (w.pair i (turns n f c).log (f n b.value).log)
+      ∙ (map-append Some (read i (turns n f c).log) (read i (f n b.value).log)
+      ∙ (ap (λ (ts : List (Option Touch)). ts ++ map Some (read i (f n b.value).log)) (iterations_read s l hs q n c b.value b.first i)
+      ∙ (ap (λ (ts : List (Option Touch)). before ++ ts) (iteration_read s l hs n q b.value d b.second i)
+      ∙ ap (λ (r : Result Cells TrapAt). before ++ touches_from r (λ a. touches_of_groups part n (groups_of_iteration s l hs n a))) (sym b.first)))))

@@ -8,8 +8,8 @@ use Rattle.fl_types.specs.Nests.{iteration_body}
 use Rattle.meaning.specs.Sites.{Site, in_iteration}
 use Rattle.meaning.specs.Touches.{touches_in, right_touches_in, scope_at}
 use Rattle.meaning.specs.Reached.{iteration_cells}
-use Rattle.meaning.specs.Groups.{right_of, ArePieces, RunsTouch, groups_of_iteration, IterationsTouch}
-use Rattle.meaning.proofs.GroupReadings.{run_read, iteration_read}
+use Rattle.meaning.specs.Groups.{right_of, ArePieces, RunsTouch, groups_of_iteration, IterationsTouch, LoopsTouch}
+use Rattle.meaning.proofs.GroupReadings.{run_read, iteration_read, iterations_read}
 use Rattle.meaning.proofs.RightSides.{all_reading, right_reading}
 use Rattle.meaning.proofs.GroupPieces.{all_pieces}
 
@@ -39,3 +39,7 @@ iterations_touch decls s l e f q hs k c = record {
   groups = subst (λ (u : Scope). ArePieces (accesses_all u 1 [] (iteration_body l.directive l.body)) (groups_of_iteration s l hs k c)) (scopes_agree decls s l e f)
       (all_pieces (iteration_body l.directive l.body) 1 [] (in_iteration s l.directive l.var l.body) (iteration_cells s l.directive l.var l.body hs k c));
 }
+
+pub loops_touch : LoopsTouch
+loops_touch s l q hs n c d h i =
+    (iterations_read touches_in (λ g. g.accesses) all_reading s l hs q n c d h i, λ on. iterations_read (right_touches_in on) (right_of on) (right_reading on) s l hs q n c d h i)

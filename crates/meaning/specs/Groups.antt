@@ -8,6 +8,7 @@ use Rattle.fl_types.specs.Sharing.{is_ring_name, ParallelLoop}
 use Rattle.fl_types.specs.Increment.{Signed, increment_terms}
 use Rattle.fl_types.specs.Accesses.{Scope, Occurrence, loop_accesses, reads, term_reads, step_reads, condition_reads, accesses, accesses_all, statement_count, statements_count, test_path}
 use Rattle.fl_types.specs.Nests.{is_nest, iteration_body}
+use Rattle.meaning.specs.declared.value.TrapAt.{TrapAt}
 use Rattle.meaning.specs.Logs.{Touch, Log}
 use Rattle.meaning.specs.Sites.{Cells, Site, in_turn, in_iteration}
 use Rattle.meaning.specs.Expressions.{holds}
@@ -125,3 +126,21 @@ abbrev pub IterationsTouch : Type 0
 IterationsTouch =
     (decls : List Decl) (site : Site) (l : ParallelLoop) → site.outer ≡ l.outer → site.ring ≡ is_ring_name decls → are_sequential (iteration_body l.directive l.body) ≡ true →
     (heads : Heads) (k : ℕ) (cells : Cells) → IterationTouches decls site l heads k cells
+
+abbrev pub touches_from : Result Cells TrapAt → (Cells → List (Option Touch)) → List (Option Touch)
+touches_from (Ok cells) f = f cells
+touches_from (Err t) f = []
+
+-- those of the first n iterations, each in the cells that the ones before it leave
+abbrev pub touches_of_iterations : (Group → List Occurrence) → Site → ParallelLoop → Heads → ℕ → Cells → List (Option Touch)
+touches_of_iterations part site l heads zero cells = []
+touches_of_iterations part site l heads (suc n) cells =
+    touches_of_iterations part site l heads n cells
+    ++ touches_from (turns n (iteration_of site l heads) cells).out (λ c. touches_of_groups part n (groups_of_iteration site l heads n c))
+
+-- so do the iterations of a parallel loop together, each with its number
+abbrev pub LoopsTouch : Type 0
+LoopsTouch =
+    (site : Site) (l : ParallelLoop) → are_sequential (iteration_body l.directive l.body) ≡ true → (heads : Heads) (n : ℕ) (cells d : Cells) → (turns n (iteration_of site l heads) cells).out ≡ Ok d → (i : ℕ) →
+    (map Some (touches_in i (turns n (iteration_of site l heads) cells).log) ≡ touches_of_iterations (λ g. g.accesses) site l heads n cells)
+    × ((on : List ℕ → Bool) → map Some (right_touches_in on i (turns n (iteration_of site l heads) cells).log) ≡ touches_of_iterations (right_of on) site l heads n cells)

@@ -1,5 +1,5 @@
 ghost use Rattle.meaning.specs.FittingLaws.{FittingIsByPlace, ValuesFit, ConditionsAreDefined, CountsFit, RunsFit, EntriesFit, DirectionsFit, KindsGoByNames, EntriesAreKinded, ProgramsAreKinded, TouchesAreAccesses};
-ghost use Rattle.meaning.specs.Groups.{RunsTouch, IterationsTouch};
+ghost use Rattle.meaning.specs.Groups.{RunsTouch, IterationsTouch, LoopsTouch};
 ghost use Rattle.meaning.specs.Frame.{NamesAreKept, CellsAreKept};
 ghost use Rattle.meaning.specs.Reached.{RunsAreSound};
 
@@ -81,4 +81,9 @@ pub fn runs_touch()
 /// An iteration of a parallel loop touches what the groups that it evaluates access, in order, and each stands among the loop's.
 pub fn iterations_touch()
     ensures { IterationsTouch }
+{}
+
+/// The iterations of a parallel loop together touch what their groups access, in order, each with its number.
+pub fn loops_touch()
+    ensures { LoopsTouch }
 {}

@@ -9,8 +9,9 @@ mod value;
 pub use arithmetic::{binary, intrinsic, literal, relates};
 pub use fitting::{
     cells_are_kept, conditions_are_defined, counts_fit, directions_fit, entries_are_kinded,
-    entries_fit, fitting_is_by_place, iterations_touch, kinds_go_by_names, names_are_kept,
-    programs_are_kinded, runs_are_sound, runs_fit, runs_touch, touches_are_accesses, values_fit,
+    entries_fit, fitting_is_by_place, iterations_touch, kinds_go_by_names, loops_touch,
+    names_are_kept, programs_are_kinded, runs_are_sound, runs_fit, runs_touch,
+    touches_are_accesses, values_fit,
 };
 pub use laws::{
     cells_are_replayed, conflict_is_reported, reports_are_one, runs_go_by_keys,
