@@ -92,6 +92,9 @@ listed s c e es vs h =
 
 -- ---- assignments
 
+three_logs : {l a m b n d : Log} → l ≡ both a m → m ≡ both b n → n ≡ d → l ≡ both a (both b d)
+three_logs {l} {a} {m} {b} e f g = e ∙ ap (both a) (f ∙ ap (both b) g)
+
 -- what a plain assignment stored, and where
 pub record PlainRun (s : Site) (c : Cells) (p : Designator) (e : Expression) (d : Cells) : Type 0 where
   pub value : Value
@@ -119,21 +122,17 @@ put_run s c x v (Some p) d h =
     let P : Cells → Type 0 = λ a. a ≡ slice_set c p (Some w) in
     record { place = p; found = refl; cells = touching_gives s x p Write (after_push s x (content c p) t) P (saving_gives s x (content c p) t P (gives_value {X = Cause} (slice_set c p (Some w)) P refl)) d h; log = refl }
 
+plain_made : (s : Site) (c : Cells) (p : Designator) (e : Expression) (d : Cells) (v : Value) (vs : List Value) (m : Log) → (value_of e s c).out ≡ Ok v → (values_of p.subscripts s c).out ≡ Ok vs
+    → (plain_assignment s c p e).log ≡ both (within (right_side p.name) (value_of e s c).log) m → m ≡ both (values_of p.subscripts s c).log (put s c p.name v (place_of s p.name (whole_numbers vs))).log
+    → PutRun s c p.name v (place_of s p.name (whole_numbers vs)) d → PlainRun s c p e d
+plain_made s c p e d v vs m f g l n i =
+    record { value = v; evaluated = f; subscripts = vs; evaluated_subscripts = g; place = i.place; found = i.found; cells = i.cells; log = three_logs l n i.log }
+
 pub plain_run : (s : Site) (c : Cells) (p : Designator) (e : Expression) (d : Cells) → (plain_assignment s c p e).out ≡ Ok d → PlainRun s c p e d
 plain_run s c p e d h =
     let f = bound (inside (right_side p.name) (value_of e s c)) (λ v. values_of p.subscripts s c >>= (λ vs. put s c p.name v (place_of s p.name (whole_numbers vs)))) d h in
     let g = bound (values_of p.subscripts s c) (λ vs. put s c p.name f.value (place_of s p.name (whole_numbers vs))) d f.second in
-    let i = put_run s c p.name f.value (place_of s p.name (whole_numbers g.value)) d g.second in
-    record {
-      value = f.value;
-      evaluated = f.first;
-      subscripts = g.value;
-      evaluated_subscripts = g.first;
-      place = i.place;
-      found = i.found;
-      cells = i.cells;
-      log = f.log ∙ ap (λ (l : Log). both (within (right_side p.name) (value_of e s c).log) l) (g.log ∙ ap (λ (l : Log). both (values_of p.subscripts s c).log l) i.log);
-    }
+    plain_made s c p e d f.value g.value _ f.first g.first f.log g.log (put_run s c p.name f.value (place_of s p.name (whole_numbers g.value)) d g.second)
 
 -- the first of an increment's terms, and the others
 pub record TermsRun (s : Site) (c : Cells) (r : Signed) (rs : List Signed) (ds : List (Bool × Dual)) : Type 0 where
@@ -192,23 +191,17 @@ place_run s c x n ds (Some p) d h = by_content (content c p) refl h
           log = ap (λ (o : Option Value). (increment_cell s c x n ds p o).log) e;
         }
 
+increment_made : (s : Site) (c : Cells) (p : Designator) (rs : List Signed) (n : AccessKind) (d : Cells) (ds : List (Bool × Dual)) (vs : List Value) (m : Log) → (terms_of rs s c).out ≡ Ok ds → (values_of p.subscripts s c).out ≡ Ok vs
+    → (increment s c p rs n).log ≡ both (within (right_side p.name) (terms_of rs s c).log) m → m ≡ both (values_of p.subscripts s c).log (increment_place s c p.name n ds (place_of s p.name (whole_numbers vs))).log
+    → PlaceRun s c p.name n ds (place_of s p.name (whole_numbers vs)) d → IncrementRun s c p rs n d
+increment_made s c p rs n d ds vs m f g l k i =
+    record { terms = ds; evaluated = f; subscripts = vs; evaluated_subscripts = g; place = i.place; found = i.found; value = i.value; content = i.holds; cells = i.cells; log = three_logs l k i.log }
+
 pub increment_run : (s : Site) (c : Cells) (p : Designator) (rs : List Signed) (n : AccessKind) (d : Cells) → (increment s c p rs n).out ≡ Ok d → IncrementRun s c p rs n d
 increment_run s c p rs n d h =
     let f = bound (inside (right_side p.name) (terms_of rs s c)) (λ ds. values_of p.subscripts s c >>= (λ vs. increment_place s c p.name n ds (place_of s p.name (whole_numbers vs)))) d h in
     let g = bound (values_of p.subscripts s c) (λ vs. increment_place s c p.name n f.value (place_of s p.name (whole_numbers vs))) d f.second in
-    let i = place_run s c p.name n f.value (place_of s p.name (whole_numbers g.value)) d g.second in
-    record {
-      terms = f.value;
-      evaluated = f.first;
-      subscripts = g.value;
-      evaluated_subscripts = g.first;
-      place = i.place;
-      found = i.found;
-      value = i.value;
-      content = i.holds;
-      cells = i.cells;
-      log = f.log ∙ ap (λ (l : Log). both (within (right_side p.name) (terms_of rs s c).log) l) (g.log ∙ ap (λ (l : Log). both (values_of p.subscripts s c).log l) i.log);
-    }
+    increment_made s c p rs n d f.value g.value _ f.first g.first f.log g.log (place_run s c p.name n f.value (place_of s p.name (whole_numbers g.value)) d g.second)
 
 -- ---- loops
 
