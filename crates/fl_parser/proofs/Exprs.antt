@@ -179,15 +179,35 @@ module _ (l : Freed) (open_ open2 : Bool) (room : Room l Deep open_ open2) (ig :
   unfolding g.place
   place_begins d = begins_seq _ begins_name
 
+  first_argument_exact : open_ ≡ true → (d d2 : Limit) → Frees l Deep d d2 → Exact l (g.first_argument open_ ig d) never (p.first_argument open_ ip d) (p.first_argument open2 ip2 d2)
+  unfolding g.first_argument p.first_argument
+  first_argument_exact so d d2 F =
+      mark_then s.Open _ _ _ (λ _. seq (inner so d d2 F) (λ e. mark_then s.Comma _ _ _ (λ _. pure_exact e))
+      (λ e. meets (same s.Comma) binds never _ (begins_seq _ (begins_mark s.Comma)) refl refl))
+
+  first_argument_shrinks : open2 ≡ true → (d : Limit) → Shrinks (p.first_argument open2 ip2 d)
+  unfolding p.first_argument
+  first_argument_shrinks so d = shrinks_seq _ _ (shrinks_token _) (λ _. shrinks_seq _ _ (inner_shrinks so d) (λ e. shrinks_seq _ _ (shrinks_token _) (λ _. shrinks_pure e)))
+
+  second_argument_exact : open_ ≡ true → (d d2 : Limit) → Frees l Deep d d2 → Exact l (g.second_argument open_ ig d) never (p.second_argument open_ ip d) (p.second_argument open2 ip2 d2)
+  unfolding g.second_argument p.second_argument
+  second_argument_exact so d d2 F = seq (inner so d d2 F) (λ e. mark_then s.Close _ _ _ (λ _. pure_exact e))
+      (λ e. meets (same s.Close) binds never _ (begins_seq _ (begins_mark s.Close)) refl refl)
+
+  second_argument_shrinks : open2 ≡ true → (d : Limit) → Shrinks (p.second_argument open2 ip2 d)
+  unfolding p.second_argument
+  second_argument_shrinks so d = shrinks_seq _ _ (inner_shrinks so d) (λ e. shrinks_seq _ _ (shrinks_token _) (λ _. shrinks_pure e))
+
+  bracketed_shrinks : open2 ≡ true → (d : Limit) → Shrinks (p.bracketed open2 ip2 d)
+  unfolding p.bracketed
+  bracketed_shrinks so d = shrinks_seq _ _ (shrinks_token _) (λ _. shrinks_seq _ _ (inner_shrinks so d) (λ e. shrinks_seq _ _ (shrinks_token _) (λ _. shrinks_pure e)))
+
   call_of_two_exact : open_ ≡ true → (d d2 : Limit) → Frees l Deep d d2 → Exact l (g.call_of_two open_ ig d) never (p.call_of_two open_ ip d) (p.call_of_two open2 ip2 d2)
   unfolding g.call_of_two p.call_of_two
   call_of_two_exact so d d2 F =
-      seq (by_exact pairing_by s.Max fun.Max refl) (λ f. mark_then s.Open _ _ _ (λ _. seq (inner so (fewer d) (fewer d2) (frees_less F))
-      (λ a. mark_then s.Comma _ _ _ (λ _. seq (inner so (fewer d) (fewer d2) (frees_less F))
-      (λ b. mark_then s.Close _ _ _ (λ _. pure_exact (call_of f (one_more (one_more no_exprs a) b))))
-      (λ b. meets (same s.Close) binds never _ (begins_seq _ (begins_mark s.Close)) refl refl)))
-      (λ a. meets (same s.Comma) binds never _ (begins_seq _ (begins_mark s.Comma)) refl refl)))
-      (λ f. meets_never never _)
+      seq (by_exact pairing_by s.Max fun.Max refl) (λ f. seq (first_argument_exact so (fewer d) (fewer d2) (frees_less F))
+      (λ a. mapped (second_argument_exact so (fewer d) (fewer d2) (frees_less F)) (λ b. call_of f (one_more (one_more no_exprs a) b)))
+      (λ a. meets_never never _)) (λ f. meets_never never _)
 
   call_of_two_begins : (d : Limit) → Begins (g.call_of_two open_ ig d) is_pairing
   unfolding g.call_of_two
@@ -195,17 +215,13 @@ module _ (l : Freed) (open_ open2 : Bool) (room : Room l Deep open_ open2) (ig :
 
   call_of_two_bites : open2 ≡ true → (d : Limit) → Bites (p.call_of_two open2 ip2 d) is_pairing
   unfolding p.call_of_two
-  call_of_two_bites so d = bites_by pairing_by _ (λ f. shrinks_seq _ _ (shrinks_token _) (λ _. shrinks_seq _ _ (inner_shrinks so (fewer d))
-      (λ a. shrinks_seq _ _ (shrinks_token _) (λ _. shrinks_seq _ _ (inner_shrinks so (fewer d))
-      (λ b. shrinks_seq _ _ (shrinks_token _) (λ _. shrinks_pure (call_of f (one_more (one_more no_exprs a) b))))))))
+  call_of_two_bites so d = bites_by pairing_by _ (λ f. shrinks_seq _ _ (first_argument_shrinks so (fewer d))
+      (λ a. shrinks_seq _ _ (second_argument_shrinks so (fewer d)) (λ b. shrinks_pure (call_of f (one_more (one_more no_exprs a) b)))))
 
   call_of_one_exact : open_ ≡ true → (d d2 : Limit) → Frees l Deep d d2 → Exact l (g.call_of_one open_ ig d) never (p.call_of_one open_ ip d) (p.call_of_one open2 ip2 d2)
   unfolding g.call_of_one p.call_of_one
   call_of_one_exact so d d2 F =
-      seq (by_exact single_by s.Abs fun.Abs refl) (λ f. mark_then s.Open _ _ _ (λ _. seq (inner so (fewer d) (fewer d2) (frees_less F))
-      (λ a. mark_then s.Close _ _ _ (λ _. pure_exact (call_of f (one_more no_exprs a))))
-      (λ a. meets (same s.Close) binds never _ (begins_seq _ (begins_mark s.Close)) refl refl)))
-      (λ f. meets_never never _)
+      seq (by_exact single_by s.Abs fun.Abs refl) (λ f. mapped (bracketed_exact (fewer d) (fewer d2) (frees_less F) so) (λ a. call_of f (one_more no_exprs a))) (λ f. meets_never never _)
 
   call_of_one_begins : (d : Limit) → Begins (g.call_of_one open_ ig d) is_single
   unfolding g.call_of_one
@@ -213,8 +229,7 @@ module _ (l : Freed) (open_ open2 : Bool) (room : Room l Deep open_ open2) (ig :
 
   call_of_one_bites : open2 ≡ true → (d : Limit) → Bites (p.call_of_one open2 ip2 d) is_single
   unfolding p.call_of_one
-  call_of_one_bites so d = bites_by single_by _ (λ f. shrinks_seq _ _ (shrinks_token _) (λ _. shrinks_seq _ _ (inner_shrinks so (fewer d))
-      (λ a. shrinks_seq _ _ (shrinks_token _) (λ _. shrinks_pure (call_of f (one_more no_exprs a))))))
+  call_of_one_bites so d = bites_by single_by _ (λ f. shrinks_seq _ _ (bracketed_shrinks so (fewer d)) (λ a. shrinks_pure (call_of f (one_more no_exprs a))))
 
   -- ---- operands
 

@@ -300,28 +300,34 @@ module _ (open_ : Bool) (ig : Limit → Grammar Measured) (inner : open_ ≡ tru
           (λ l c L. holds_gives c (element x l) (Sound d m) (element_is d m k x l c (and_second open_ (allows d 1) r) h.0 h.1 L)) e us sp n
       after x k h e us sp (inr n) = holds_gives k (scalar x) (Sound d m) (scalar_is d m x k h.0 h.1) e us sp n
 
+  first_argument_sound : (d : Limit) (m : ℕ) → open_ ≡ true → Holds m (g.first_argument open_ ig d) (Sound d m)
+  unfolding g.first_argument
+  first_argument_sound d m so = holds_bind m (one (marked s.Open)) _ (λ _ a. m ≤ a) (Sound d m) (holds_any m _)
+      (λ _ a before. holds_bind a (ig d) _ (Sound d a) (Sound d m) (inner so d a)
+      (λ e b S. holds_bind b (one (marked s.Comma)) _ (λ _ k. b ≤ k) (Sound d m) (holds_any b _)
+      (λ _ k after. holds_gives k e (Sound d m) (longer_sound d m e b k after (wider_sound d m a e b before S)))))
+
+  second_argument_sound : (d : Limit) (m : ℕ) → open_ ≡ true → Holds m (g.second_argument open_ ig d) (Sound d m)
+  unfolding g.second_argument
+  second_argument_sound d m so = holds_bind m (ig d) _ (Sound d m) (Sound d m) (inner so d m)
+      (λ e b S. holds_bind b (one (marked s.Close)) _ (λ _ k. b ≤ k) (Sound d m) (holds_any b _)
+      (λ _ k after. holds_gives k e (Sound d m) (longer_sound d m e b k after S)))
+
   call_of_two_sound : (d : Limit) (m : ℕ) → open_ ≡ true → allows d 1 ≡ true → Holds m (g.call_of_two open_ ig d) (Sound d m)
   unfolding g.call_of_two
   call_of_two_sound d m so h = holds_bind m (one (by pairing_by)) _ (λ f k. (arity f ≡ 2) × (m < k)) (Sound d m) (holds_by pairing_by (λ f. arity f ≡ 2) refl two_args m)
-      (λ f a F. holds_bind a (one (marked s.Open)) _ (λ _ b. a ≤ b) (Sound d m) (holds_any a _)
-      (λ _ b before. holds_bind b (ig (fewer d)) _ (Sound (fewer d) b) (Sound d m) (inner so (fewer d) b)
-      (λ x c X. holds_bind c (one (marked s.Comma)) _ (λ _ i. c ≤ i) (Sound d m) (holds_any c _)
-      (λ _ i between. holds_bind i (ig (fewer d)) _ (Sound (fewer d) i) (Sound d m) (inner so (fewer d) i)
-      (λ y j Y. holds_bind j (one (marked s.Close)) _ (λ _ k. j ≤ k) (Sound d m) (holds_any j _)
-      (λ _ k after. holds_gives k (call_of f (one_more (one_more no_exprs x) y)) (Sound d m)
+      (λ f a F. holds_bind a (g.first_argument open_ ig (fewer d)) _ (Sound (fewer d) a) (Sound d m) (first_argument_sound (fewer d) a so)
+      (λ x b X. holds_bind b (g.second_argument open_ ig (fewer d)) _ (Sound (fewer d) b) (Sound d m) (second_argument_sound (fewer d) b so)
+      (λ y k Y. holds_gives k (call_of f (one_more (one_more no_exprs x) y)) (Sound d m)
       (call_is d m a f (one_more (one_more no_exprs x) y) k h (ap (λ n. nat_eq 2 n) F.0) F.1
-      (longer_list (fewer d) a b (one_more (one_more no_exprs x) y) j k before after
-      (one_more_is (fewer d) b c i (one_more no_exprs x) y j (one_more_is (fewer d) b b b no_exprs x c (none_is (fewer d) b) (omega arith) X) between Y)))))))))
+      (one_more_is (fewer d) a b b (one_more no_exprs x) y k (one_more_is (fewer d) a a a no_exprs x b (none_is (fewer d) a) (omega arith) X) (omega arith) Y)))))
 
   call_of_one_sound : (d : Limit) (m : ℕ) → open_ ≡ true → allows d 1 ≡ true → Holds m (g.call_of_one open_ ig d) (Sound d m)
   unfolding g.call_of_one
   call_of_one_sound d m so h = holds_bind m (one (by single_by)) _ (λ f k. (arity f ≡ 1) × (m < k)) (Sound d m) (holds_by single_by (λ f. arity f ≡ 1) refl one_arg m)
-      (λ f a F. holds_bind a (one (marked s.Open)) _ (λ _ b. a ≤ b) (Sound d m) (holds_any a _)
-      (λ _ b before. holds_bind b (ig (fewer d)) _ (Sound (fewer d) b) (Sound d m) (inner so (fewer d) b)
-      (λ x j X. holds_bind j (one (marked s.Close)) _ (λ _ k. j ≤ k) (Sound d m) (holds_any j _)
-      (λ _ k after. holds_gives k (call_of f (one_more no_exprs x)) (Sound d m)
-      (call_is d m a f (one_more no_exprs x) k h (ap (λ n. nat_eq 1 n) F.0) F.1
-      (longer_list (fewer d) a b (one_more no_exprs x) j k before after (one_more_is (fewer d) b b b no_exprs x j (none_is (fewer d) b) (omega arith) X)))))))
+      (λ f a F. holds_bind a (g.bracketed open_ ig (fewer d)) _ (Sound (fewer d) a) (Sound d m) (bracketed_sound (fewer d) a so)
+      (λ x k X. holds_gives k (call_of f (one_more no_exprs x)) (Sound d m)
+      (call_is d m a f (one_more no_exprs x) k h (ap (λ n. nat_eq 1 n) F.0) F.1 (one_more_is (fewer d) a a a no_exprs x k (none_is (fewer d) a) (omega arith) X))))
 
   primary_sound : (d : Limit) (m : ℕ) → Holds m (g.primary open_ ig d) (Sound d m)
   unfolding g.primary g.literal
@@ -473,14 +479,19 @@ longer c a k h C = let few_ = C.few_nodes in record {
   few_nodes = omega (arith, h, few_);
 }
 
+right_side_sound : (a : ℕ) → Holds a (g2.right_side the_limits) (Sound (Some 63) (a + 1))
+unfolding g2.right_side
+right_side_sound a = holds_bind a (one (marked s.Equals)) _ (λ _ b. a < b) (Sound (Some 63) (a + 1)) (holds_some a (marked s.Equals) (same s.Equals) refl (begins_mark s.Equals))
+    (λ _ b more. holds_bind b (g.expr 256 (Some 63)) _ (Sound (Some 63) b) (Sound (Some 63) (a + 1)) (expr_sound 256 (Some 63) b)
+    (λ e d S. holds_bind d (one (marked s.LineEnd)) _ (λ _ z. d ≤ z) (Sound (Some 63) (a + 1)) (holds_any d _)
+    (λ _ z after. holds_gives z e (Sound (Some 63) (a + 1)) (let few_ = S.few in record { is = S.is; fits = S.fits; readable = S.readable; few = omega (arith, few_, more, after) }))))
+
 stmts_well : (m : ℕ) → Holds m (g2.stmts the_limits) Counts_well
 unfolding g2.stmts g2.assign
 stmts_well m = holds_many (λ c. allows (Some 4096) (c.count + 1)) (g2.assign the_limits) Counts_well
     (λ c k C h. holds_bind k (g2.target the_limits) _ (SoundTarget k) Counts_well (target_sound k)
-    (λ t a T. holds_bind a (one (marked s.Equals)) _ (λ _ b. a < b) Counts_well (holds_some a (marked s.Equals) (same s.Equals) refl (begins_mark s.Equals))
-    (λ _ b more. holds_bind b (g.expr 256 (Some 63)) _ (Sound (Some 63) b) Counts_well (expr_sound 256 (Some 63) b)
-    (λ e d S. holds_bind d (one (marked s.LineEnd)) _ (λ _ z. d ≤ z) Counts_well (holds_any d _)
-    (λ _ z after. holds_gives z (assigned c t e) Counts_well (longer (assigned c t e) d z after (assigned_is c t e k a b d C h T more S)))))))
+    (λ t a T. holds_bind a (g2.right_side the_limits) _ (Sound (Some 63) (a + 1)) Counts_well (right_side_sound a)
+    (λ e z S. holds_gives z (assigned c t e) Counts_well (assigned_is c t e k a (a + 1) z C h T (omega arith) S))))
     no_stmts m (record { is = refl; few = omega arith; depths = omega arith; blocks = omega arith; loops = refl; readable = refl; few_nodes = omega arith })
 
 -- ---- declarations
@@ -503,23 +514,25 @@ declared_well ds line k i x dims h named shaped D =
       readable = list_all-append is_readable_decl ds (d ∷ []) ∙ and_true _ _ D.readable (and_true _ _ (and_true _ _ named (and_true _ _ (size_of k) shaped)) refl);
     }
 
+item_well : (line : ℕ) (k : Kind) (i : Intent) (ds : List Decl) → nat_le (length ds + 1) 512 ≡ true → Declares_well ds → (m : ℕ) → Holds m (g2.item line k i ds) (λ es n. Declares_well es)
+unfolding g2.item
+item_well line k i ds h D m = holds_bind m (one name) _ (λ x n. is_variable x.name ≡ true) (λ es n. Declares_well es) (holds_name m)
+    (λ x a named. holds_bind a g3.shape _ AreDims (λ es n. Declares_well es) (shape_is a)
+    (λ dims n shaped. holds_gives n (declared ds line k i x dims) (λ es n. Declares_well es) (declared_well ds line k i x dims h named shaped D)))
+
 decls_well : (m : ℕ) → Holds m (g2.decls the_limits) (λ ds k. Declares_well ds)
 unfolding g2.decls g2.decl g2.items g2.another_item
 decls_well m = holds_many (g2.may_declare the_limits) (g2.decl the_limits) (λ ds k. Declares_well ds)
     (λ ds a D h. holds_bind a (one (marked s.Integer)) _ (λ _ b. a ≤ b) (λ es k. Declares_well es) (holds_any a _)
     (λ line b _. holds_bind b g2.kind _ (λ _ c. b ≤ c) (λ es k. Declares_well es) (holds_any b _)
     (λ kind c _. holds_bind c g2.intent _ (λ _ e. c ≤ e) (λ es k. Declares_well es) (holds_any c _)
-    (λ i e _. holds_bind e (one name) _ (λ x k. is_variable x.name ≡ true) (λ es k. Declares_well es) (holds_name e)
-    (λ x o named. holds_bind o g3.shape _ AreDims (λ es k. Declares_well es) (shape_is o)
-    (λ dims f shaped. holds_bind f (g2.items the_limits line kind i (declared ds line kind i x dims)) _ (λ es k. Declares_well es) (λ es k. Declares_well es)
+    (λ i e _. holds_bind e (g2.item line kind i ds) _ (λ es k. Declares_well es) (λ es k. Declares_well es) (item_well line kind i ds h D e)
+    (λ first f E. holds_bind f (g2.items the_limits line kind i first) _ (λ es k. Declares_well es) (λ es k. Declares_well es)
     (holds_many (g2.may_declare the_limits) (g2.another_item the_limits line kind i) (λ es k. Declares_well es)
     (λ es k E r. holds_bind k (one (marked s.Comma)) _ (λ _ n. k ≤ n) (λ es n. Declares_well es) (holds_any k _)
-    (λ _ n _. holds_bind n (one name) _ (λ y k. is_variable y.name ≡ true) (λ es n. Declares_well es) (holds_name n)
-    (λ y o called. holds_bind o g3.shape _ AreDims (λ es n. Declares_well es) (shape_is o)
-    (λ more_dims n more_shaped. holds_gives n (declared es line kind i y more_dims) (λ es n. Declares_well es) (declared_well es line kind i y more_dims r called more_shaped E)))))
-    (declared ds line kind i x dims) f (declared_well ds line kind i x dims h named shaped D))
+    (λ _ n _. item_well line kind i es r E n)) first f E)
     (λ found n F. holds_bind n (one (marked s.LineEnd)) _ (λ _ k. n ≤ k) (λ es k. Declares_well es) (holds_any n _)
-    (λ _ k _. holds_gives k found (λ es k. Declares_well es) F))))))))
+    (λ _ k _. holds_gives k found (λ es k. Declares_well es) F)))))))
     [] m (record { few = omega arith; readable = refl })
 
 -- ---- the unit

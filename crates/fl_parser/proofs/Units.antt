@@ -126,10 +126,18 @@ shapes = among (s.Comma ∷ s.Open ∷ [])
 abbrev ends_item : Symbol → Bool
 ends_item = among (s.Comma ∷ s.LineEnd ∷ [])
 
+item_exact : (l : Freed) (line : ℕ) (k : Kind) (i : Intent) (ds : List Decl) → Exact l (g.item line k i ds) (is s.Open) (p.item line k i ds) (p.item line k i ds)
+unfolding g.item p.item
+item_exact l line k i ds = seq name_exact (λ x. mapped (shape_exact l) (declared ds line k i x)) (λ x. meets_never (is s.Open) _)
+
+item_begins : (line : ℕ) (k : Kind) (i : Intent) (ds : List Decl) → Begins (g.item line k i ds) (on names)
+unfolding g.item
+item_begins line k i ds = begins_seq _ begins_name
+
 module _ (l : Freed) (limits wide : Limits) (W : Widens l limits wide) where
   another_item_exact : (line : ℕ) (k : Kind) (i : Intent) (ds : List Decl) → Exact l (g.another_item limits line k i ds) (is s.Open) (p.another_item limits line k i ds) (p.another_item wide line k i ds)
   unfolding g.another_item p.another_item
-  another_item_exact line k i ds = mark_then s.Comma _ _ _ (λ _. seq name_exact (λ x. mapped (shape_exact l) (declared ds line k i x)) (λ x. meets_never (is s.Open) _))
+  another_item_exact line k i ds = mark_then s.Comma _ _ _ (λ _. item_exact l line k i ds)
 
   another_item_begins : (line : ℕ) (k : Kind) (i : Intent) (ds : List Decl) → Begins (g.another_item limits line k i ds) (is s.Comma)
   unfolding g.another_item
@@ -137,7 +145,7 @@ module _ (l : Freed) (limits wide : Limits) (W : Widens l limits wide) where
 
   another_item_bites : (line : ℕ) (k : Kind) (i : Intent) (ds : List Decl) → Bites (p.another_item wide line k i ds) (is s.Comma)
   unfolding p.another_item
-  another_item_bites line k i ds = bites_mark s.Comma _ (λ _. shrinks_seq _ _ (shrinks_token _) (λ x. shrinks_seq _ _ ((shape_exact l).shrinks) (λ dims. shrinks_pure (declared ds line k i x dims))))
+  another_item_bites line k i ds = bites_mark s.Comma _ (λ _. (item_exact l line k i ds).shrinks)
 
   items_exact : (line : ℕ) (k : Kind) (i : Intent) (ds : List Decl) → Exact l (g.items limits line k i ds) (on shapes) (p.items limits line k i ds) (p.items wide line k i ds)
   unfolding g.items p.items
@@ -154,17 +162,15 @@ module _ (l : Freed) (limits wide : Limits) (W : Widens l limits wide) where
   unfolding g.decl p.decl
   decl_exact ds = mark_then s.Integer _ _ _ (λ line. seq (kind_exact l)
       (λ k. seq (intent_exact l)
-      (λ i. seq name_exact
-      (λ x. seq (shape_exact l)
-      (λ dims. seq (items_exact line k i (declared ds line k i x dims)) (λ found. mark_then s.LineEnd _ _ _ (λ _. pure_exact found))
+      (λ i. seq (item_exact l line k i ds)
+      (λ first. seq (items_exact line k i first) (λ found. mark_then s.LineEnd _ _ _ (λ _. pure_exact found))
       (λ found. meets (same s.LineEnd) shapes never _ (begins_seq _ (begins_mark s.LineEnd)) refl refl))
-      (λ dims. meets ends_item (same s.Open) never _ (begins_opens (g.items limits line k i (declared ds line k i x dims)) _ (on ends_item)
-      (opens_in (same s.Comma) ends_item _ (items_open line k i (declared ds line k i x dims)) (wider (same s.Comma) ends_item refl refl))
+      (λ first. meets ends_item (same s.Open) never _ (begins_opens (g.items limits line k i first) _ (on ends_item)
+      (opens_in (same s.Comma) ends_item _ (items_open line k i first) (wider (same s.Comma) ends_item refl refl))
       (λ found. begins_in (same s.LineEnd) ends_item _ (begins_seq _ (begins_mark s.LineEnd)) refl refl)) refl refl))
-      (λ x. meets_never never _))
-      (λ i. meets names intents never _ (begins_seq _ begins_name) refl refl))
+      (λ i. meets names intents never _ (begins_seq _ (item_begins line k i ds)) refl refl))
       (λ k. meets heads (same s.Open) never _
-      (begins_opens g.intent _ (on heads) opens_heads (λ i. begins_in names heads _ (begins_seq _ begins_name) refl refl)) refl refl))
+      (begins_opens g.intent _ (on heads) opens_heads (λ i. begins_in names heads _ (begins_seq _ (item_begins line k i ds)) refl refl)) refl refl))
 
   decl_begins : (ds : List Decl) → Begins (g.decl limits ds) (is s.Integer)
   unfolding g.decl
@@ -172,8 +178,8 @@ module _ (l : Freed) (limits wide : Limits) (W : Widens l limits wide) where
 
   decl_bites : (ds : List Decl) → Bites (p.decl wide ds) (is s.Integer)
   unfolding p.decl
-  decl_bites ds = bites_mark s.Integer _ (λ line. shrinks_seq _ _ ((kind_exact l).shrinks) (λ k. shrinks_seq _ _ ((intent_exact l).shrinks) (λ i. shrinks_seq _ _ (shrinks_token _)
-      (λ x. shrinks_seq _ _ ((shape_exact l).shrinks) (λ dims. shrinks_seq _ _ ((items_exact line k i (declared ds line k i x dims)).shrinks) (λ found. shrinks_seq _ _ (shrinks_token _) (λ _. shrinks_pure found)))))))
+  decl_bites ds = bites_mark s.Integer _ (λ line. shrinks_seq _ _ ((kind_exact l).shrinks) (λ k. shrinks_seq _ _ ((intent_exact l).shrinks) (λ i. shrinks_seq _ _ ((item_exact l line k i ds).shrinks)
+      (λ first. shrinks_seq _ _ ((items_exact line k i first).shrinks) (λ found. shrinks_seq _ _ (shrinks_token _) (λ _. shrinks_pure found))))))
 
   decls_exact : Exact l (g.decls limits) (is s.Integer) (p.decls limits) (p.decls wide)
   unfolding g.decls p.decls
@@ -214,12 +220,19 @@ module _ (l : Freed) (limits wide : Limits) (W : Widens l limits wide) where
   unfolding g.target
   target_begins = begins_seq _ begins_name
 
+  right_side_exact : Exact l (g.right_side limits) never (p.right_side limits) (p.right_side wide)
+  unfolding g.right_side p.right_side
+  right_side_exact = mark_then s.Equals _ _ _ (λ _. seq (expr_exact l limits.brackets wide.brackets W.brackets (fewer limits.depth) (fewer wide.depth) F)
+      (λ e. mark_then s.LineEnd _ _ _ (λ _. pure_exact e))
+      (λ e. meets (same s.LineEnd) binds never _ (begins_seq _ (begins_mark s.LineEnd)) refl refl))
+
+  right_side_begins : Begins (g.right_side limits) (is s.Equals)
+  unfolding g.right_side
+  right_side_begins = begins_seq _ (begins_mark s.Equals)
+
   assign_exact : (c : Counted) → Exact l (g.assign limits c) never (p.assign limits c) (p.assign wide c)
   unfolding g.assign p.assign
-  assign_exact c = seq target_exact (λ t. mark_then s.Equals _ _ _ (λ _. seq (expr_exact l limits.brackets wide.brackets W.brackets (fewer limits.depth) (fewer wide.depth) F)
-      (λ e. mark_then s.LineEnd _ _ _ (λ _. pure_exact (assigned c t e)))
-      (λ e. meets (same s.LineEnd) binds never _ (begins_seq _ (begins_mark s.LineEnd)) refl refl)))
-      (λ t. meets (same s.Equals) (same s.Open) never _ (begins_seq _ (begins_mark s.Equals)) refl refl)
+  assign_exact c = seq target_exact (λ t. mapped right_side_exact (assigned c t)) (λ t. meets (same s.Equals) (same s.Open) never _ (begins_seq _ right_side_begins) refl refl)
 
   assign_begins : (c : Counted) → Begins (g.assign limits c) (on names)
   unfolding g.assign
@@ -235,8 +248,7 @@ module _ (l : Freed) (limits wide : Limits) (W : Widens l limits wide) where
 
   assign_bites : (c : Counted) → Bites (p.assign wide c) (on names)
   unfolding p.assign
-  assign_bites c = bites_seq _ _ (on names) target_bites (λ t. shrinks_seq _ _ (shrinks_token _) (λ _. shrinks_seq _ _ ((expr_exact l limits.brackets wide.brackets W.brackets (fewer limits.depth) (fewer wide.depth) F).shrinks)
-      (λ e. shrinks_seq _ _ (shrinks_token _) (λ _. shrinks_pure (assigned c t e)))))
+  assign_bites c = bites_seq _ _ (on names) target_bites (λ t. shrinks_seq _ _ (right_side_exact.shrinks) (λ e. shrinks_pure (assigned c t e)))
 
   stmts_exact : Exact l (g.stmts limits) (on names) (p.stmts limits) (p.stmts wide)
   unfolding g.stmts p.stmts

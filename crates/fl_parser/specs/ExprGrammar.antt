@@ -78,24 +78,34 @@ module _ (may_open : Bool) (inner : Limit → Grammar Measured) where
     x ← one name
     after_name d x
 
+  -- "(" expr ","
+  unfoldable pub first_argument : Limit → Grammar Measured
+  first_argument d = do
+    open_ ← one (marked s.Open)
+    e ← inner d
+    comma ← one (marked s.Comma)
+    gives e
+
+  -- expr ")"
+  unfoldable pub second_argument : Limit → Grammar Measured
+  second_argument d = do
+    e ← inner d
+    close ← one (marked s.Close)
+    gives e
+
   -- ("max"|"min"|"mod") "(" expr "," expr ")"
   unfoldable pub call_of_two : Limit → Grammar Measured
   call_of_two d = do
     f ← one pairing
-    open_ ← one (marked s.Open)
-    a ← inner (less d)
-    comma ← one (marked s.Comma)
-    b ← inner (less d)
-    close ← one (marked s.Close)
+    a ← first_argument (less d)
+    b ← second_argument (less d)
     gives (call_of f (one_more (one_more no_exprs a) b))
 
   -- "abs" "(" expr ")"
   unfoldable pub call_of_one : Limit → Grammar Measured
   call_of_one d = do
     f ← one single
-    open_ ← one (marked s.Open)
-    a ← inner (less d)
-    close ← one (marked s.Close)
+    a ← bracketed (less d)
     gives (call_of f (one_more no_exprs a))
 
   -- "(" expr ")" | fun "(" expr {"," expr} ")" | place | number

@@ -73,22 +73,30 @@ module _ (may_open : Bool) (inner : Limit → Parser Measured) where
     x ← token name
     after_name d x
 
+  unfoldable pub first_argument : Limit → Parser Measured
+  first_argument d = do
+    open_ ← token (marked s.Open)
+    e ← inner d
+    comma ← token (marked s.Comma)
+    pure e
+
+  unfoldable pub second_argument : Limit → Parser Measured
+  second_argument d = do
+    e ← inner d
+    close ← token (marked s.Close)
+    pure e
+
   unfoldable pub call_of_two : Limit → Parser Measured
   call_of_two d = do
     f ← token pairing
-    open_ ← token (marked s.Open)
-    a ← inner (less d)
-    comma ← token (marked s.Comma)
-    b ← inner (less d)
-    close ← token (marked s.Close)
+    a ← first_argument (less d)
+    b ← second_argument (less d)
     pure (call_of f (one_more (one_more no_exprs a) b))
 
   unfoldable pub call_of_one : Limit → Parser Measured
   call_of_one d = do
     f ← token single
-    open_ ← token (marked s.Open)
-    a ← inner (less d)
-    close ← token (marked s.Close)
+    a ← bracketed (less d)
     pure (call_of f (one_more no_exprs a))
 
   unfoldable pub named : Limit → Parser Measured

@@ -11,6 +11,7 @@ use Rattle.parsing.specs.Limit.{allows, less}
 use Rattle.parsing.specs.Terminal.{marked, name, word, same_word}
 use Rattle.parsing.specs.Grammar.{Grammar, ◌>>=◌, gives, one, ◌or◌, where_, many}
 use Rattle.parsing.specs.declared.cursor.Word.{Word}
+use Rattle.fl_parser.specs.declared.tree.Measured.{Measured}
 use Rattle.fl_parser.specs.declared.stmt.Counted.{Counted}
 use Rattle.fl_parser.specs.declared.stmt.TargetPlace.{TargetPlace}
 use Rattle.fl_parser.specs.Terminals.{kind_number}
@@ -94,6 +95,13 @@ colons =
 unfoldable pub intent : Grammar Intent
 intent = intent_list or colons
 
+-- name [ "(" dim {"," dim} ")" ]
+unfoldable pub item : ℕ → Kind → Intent → List Decl → Grammar (List Decl)
+item line k i ds = do
+  x ← one name
+  dims ← shape
+  gives (declared ds line k i x dims)
+
 module _ (limits : Limits) where
   -- whether one more declaration fits
   abbrev pub may_declare : List Decl → Bool
@@ -103,9 +111,7 @@ module _ (limits : Limits) where
   unfoldable pub another_item : ℕ → Kind → Intent → List Decl → Grammar (List Decl)
   another_item line k i ds = do
     comma ← one (marked s.Comma)
-    x ← one name
-    dims ← shape
-    gives (declared ds line k i x dims)
+    item line k i ds
 
   unfoldable pub items : ℕ → Kind → Intent → List Decl → Grammar (List Decl)
   items line k i = many (λ ds. where_ (may_declare ds) (another_item line k i ds))
@@ -116,9 +122,8 @@ module _ (limits : Limits) where
     line ← one (marked s.Integer)
     k ← kind
     i ← intent
-    x ← one name
-    dims ← shape
-    found ← items line k i (declared ds line k i x dims)
+    first ← item line k i ds
+    found ← items line k i first
     eol ← one (marked s.LineEnd)
     gives found
 
@@ -141,13 +146,18 @@ module _ (limits : Limits) where
     x ← one name
     after_target x
 
+  unfoldable pub right_side : Grammar Measured
+  right_side = do
+    equals ← one (marked s.Equals)
+    e ← expr limits.brackets (less limits.depth)
+    eol ← one (marked s.LineEnd)
+    gives e
+
   -- place "=" expr eol
   unfoldable pub assign : Counted → Grammar Counted
   assign c = do
     t ← target
-    equals ← one (marked s.Equals)
-    e ← expr limits.brackets (less limits.depth)
-    eol ← one (marked s.LineEnd)
+    e ← right_side
     gives (assigned c t e)
 
   unfoldable pub stmts : Grammar Counted

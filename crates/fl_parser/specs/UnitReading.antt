@@ -12,6 +12,7 @@ use Rattle.parsing.specs.Limit.{allows, less}
 use Rattle.parsing.specs.Terminal.{is, on, marked, names, name, words, word, same_word}
 use Rattle.parsing.specs.Reading.{Parser, ◌>>=◌, pure, token, choose, within, loop}
 use Rattle.parsing.specs.declared.cursor.Word.{Word}
+use Rattle.fl_parser.specs.declared.tree.Measured.{Measured}
 use Rattle.fl_parser.specs.declared.stmt.Counted.{Counted}
 use Rattle.fl_parser.specs.declared.stmt.TargetPlace.{TargetPlace}
 use Rattle.fl_parser.specs.Terminals.{kind_number}
@@ -87,6 +88,12 @@ colons = choose (is s.Colons)
 unfoldable pub intent : Parser Intent
 intent = choose (is s.Comma) intent_list colons
 
+unfoldable pub item : ℕ → Kind → Intent → List Decl → Parser (List Decl)
+item line k i ds = do
+  x ← token name
+  dims ← shape
+  pure (declared ds line k i x dims)
+
 module _ (limits : Limits) where
   -- whether one more declaration fits
   abbrev pub may_declare : List Decl → Bool
@@ -96,9 +103,7 @@ module _ (limits : Limits) where
   unfoldable pub another_item : ℕ → Kind → Intent → List Decl → Parser (List Decl)
   another_item line k i ds = do
     comma ← token (marked s.Comma)
-    x ← token name
-    dims ← shape
-    pure (declared ds line k i x dims)
+    item line k i ds
 
   unfoldable pub items : ℕ → Kind → Intent → List Decl → Parser (List Decl)
   items line k i = loop (is s.Comma) may_declare Many (another_item line k i)
@@ -108,9 +113,8 @@ module _ (limits : Limits) where
     line ← token (marked s.Integer)
     k ← kind
     i ← intent
-    x ← token name
-    dims ← shape
-    found ← items line k i (declared ds line k i x dims)
+    first ← item line k i ds
+    found ← items line k i first
     eol ← token (marked s.LineEnd)
     pure found
 
@@ -132,12 +136,17 @@ module _ (limits : Limits) where
     x ← token name
     after_target x
 
-  unfoldable pub assign : Counted → Parser Counted
-  assign c = do
-    t ← target
+  unfoldable pub right_side : Parser Measured
+  right_side = do
     equals ← token (marked s.Equals)
     e ← expr limits.brackets (less limits.depth)
     eol ← token (marked s.LineEnd)
+    pure e
+
+  unfoldable pub assign : Counted → Parser Counted
+  assign c = do
+    t ← target
+    e ← right_side
     pure (assigned c t e)
 
   unfoldable pub stmts : Parser Counted

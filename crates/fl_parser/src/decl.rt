@@ -157,6 +157,20 @@ fn intent(tokens: &mut Cursor<'_>) -> Result<Intent, Failure>
     colons(tokens)
 }
 
+#[tactic(auto, unfolding(crate::specs::UnitReading::item))]
+fn item(
+    alloc: Global,
+    tokens: &mut Cursor<'_>,
+    head: Head,
+    found: Items<Decl>,
+) -> Result<Items<Decl>, Failure>
+    ensures { Reads (spec.item head.line head.kind head.intent found tokens.old) result tokens.new }
+{
+    let word = tokens.name(alloc)?;
+    let dims = shape(alloc, tokens)?;
+    Ok(declared(found, head, word, dims)?)
+}
+
 #[tactic(auto, unfolding(crate::specs::UnitReading::another_item))]
 fn another_item(
     alloc: Global,
@@ -168,9 +182,7 @@ fn another_item(
     ensures { Reads (spec.another_item (limits_of limits) head.line head.kind head.intent found tokens.old) result tokens.new }
 {
     let _comma = tokens.mark(Symbol::Comma)?;
-    let word = tokens.name(alloc)?;
-    let dims = shape(alloc, tokens)?;
-    Ok(declared(found, head, word, dims)?)
+    item(alloc, tokens, head, found)
 }
 
 fn items(
@@ -207,9 +219,7 @@ fn decl(
     let kind = kind(tokens)?;
     let intent = intent(tokens)?;
     let head = Head { line, kind, intent };
-    let word = tokens.name(alloc)?;
-    let dims = shape(alloc, tokens)?;
-    let first = declared(found, head, word, dims)?;
+    let first = item(alloc, tokens, head, found)?;
     let found = items(alloc, tokens, limits, head, first)?;
     let _eol = tokens.mark(Symbol::LineEnd)?;
     Ok(found)

@@ -7,7 +7,7 @@ ghost use Rattle.fl_parser.specs.DimReading as spec;
 ghost use Rattle.fl_parser.specs.Terminals as terminals;
 
 use fl_ast::{Bound, Dim, Factor, Sign, Term};
-use fl_base::{Items, Memory};
+use fl_base::{Held, Items, Memory};
 use parsing::{Cause, Cursor, Failure, Symbol};
 use std::alloc::Global;
 
@@ -139,10 +139,11 @@ fn after_bound(alloc: Global, tokens: &mut Cursor<'_>, first: Bound) -> Result<D
     ensures { Reads (spec.after_bound first tokens.old) result tokens.new }
 {
     if tokens.sees(Symbol::Colon) {
+        let lower = Held::of(first);
         let _colon = tokens.mark(Symbol::Colon)?;
         let upper = bound(alloc, tokens)?;
         return Ok(Dim {
-            lower: Some(first),
+            lower: Some(lower.into_inner()),
             upper,
         });
     }

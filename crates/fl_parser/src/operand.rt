@@ -230,6 +230,33 @@ impl<F: Fn(Global, &mut Cursor<'_>, usize, usize) -> Result<Measured, Failure>> 
         self.after_name(tokens, d, word)
     }
 
+    #[tactic(auto, unfolding(crate::specs::ExprReading::first_argument))]
+    fn first_argument(&self, tokens: &mut Cursor<'_>, d: usize) -> Result<Measured, Failure>
+        requires nests { Nests self.now.brackets (F.pre self.now.expr) (F.post self.now.expr) }
+        requires few { d < 2 ^ 32 }
+        requires room { 0 < self.now.brackets }
+        ensures reads { Reads (spec.first_argument (nat_lt 0 self.now.brackets) (spec.below self.now.brackets) (Some d) tokens.old) result tokens.new }
+        ensures depth { IfOk result (λ x. (0 < x.depth) × (x.depth ≤ d + 1)) }
+    {
+        let _open = tokens.mark(Symbol::Open)?;
+        let e = self.inner(tokens, d)?;
+        let _comma = tokens.mark(Symbol::Comma)?;
+        Ok(e)
+    }
+
+    #[tactic(auto, unfolding(crate::specs::ExprReading::second_argument))]
+    fn second_argument(&self, tokens: &mut Cursor<'_>, d: usize) -> Result<Measured, Failure>
+        requires nests { Nests self.now.brackets (F.pre self.now.expr) (F.post self.now.expr) }
+        requires few { d < 2 ^ 32 }
+        requires room { 0 < self.now.brackets }
+        ensures reads { Reads (spec.second_argument (nat_lt 0 self.now.brackets) (spec.below self.now.brackets) (Some d) tokens.old) result tokens.new }
+        ensures depth { IfOk result (λ x. (0 < x.depth) × (x.depth ≤ d + 1)) }
+    {
+        let e = self.inner(tokens, d)?;
+        let _close = tokens.mark(Symbol::Close)?;
+        Ok(e)
+    }
+
     #[tactic(auto, unfolding(crate::specs::ExprReading::call_of_two))]
     fn call_of_two(&self, tokens: &mut Cursor<'_>, d: usize) -> Result<Measured, Failure>
         requires nests { Nests self.now.brackets (F.pre self.now.expr) (F.post self.now.expr) }
@@ -240,11 +267,8 @@ impl<F: Fn(Global, &mut Cursor<'_>, usize, usize) -> Result<Measured, Failure>> 
         ensures depth { IfOk result (λ x. (0 < x.depth) × (x.depth ≤ d + 1)) }
     {
         let fun = pairing(tokens)?;
-        let _open = tokens.mark(Symbol::Open)?;
-        let a = self.inner(tokens, d - 1)?;
-        let _comma = tokens.mark(Symbol::Comma)?;
-        let b = self.inner(tokens, d - 1)?;
-        let _close = tokens.mark(Symbol::Close)?;
+        let a = self.first_argument(tokens, d - 1)?;
+        let b = self.second_argument(tokens, d - 1)?;
         let args = two_exprs(self.alloc, a, b)?;
         Ok(call(self.alloc, fun, args)?)
     }
@@ -259,9 +283,7 @@ impl<F: Fn(Global, &mut Cursor<'_>, usize, usize) -> Result<Measured, Failure>> 
         ensures depth { IfOk result (λ x. (0 < x.depth) × (x.depth ≤ d + 1)) }
     {
         let fun = single(tokens)?;
-        let _open = tokens.mark(Symbol::Open)?;
-        let a = self.inner(tokens, d - 1)?;
-        let _close = tokens.mark(Symbol::Close)?;
+        let a = self.bracketed(tokens, d - 1)?;
         let args = one_more(no_exprs(self.alloc), a)?;
         Ok(call(self.alloc, fun, args)?)
     }

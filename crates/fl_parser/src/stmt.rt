@@ -119,6 +119,22 @@ fn target(alloc: Global, tokens: &mut Cursor<'_>, limits: Limits) -> Result<Targ
     after_target(alloc, tokens, limits, word)
 }
 
+#[tactic(auto, unfolding(crate::specs::UnitReading::right_side))]
+fn right_side(alloc: Global, tokens: &mut Cursor<'_>, limits: Limits) -> Result<Measured, Failure>
+    requires { limits.depth < 2 ^ 32 }
+    ensures { Reads (spec.right_side (limits_of limits) tokens.old) result tokens.new }
+{
+    let _equals = tokens.mark(Symbol::Equals)?;
+    let value = expr(
+        alloc,
+        tokens,
+        limits.brackets,
+        limits.depth.saturating_sub(1),
+    )?;
+    let _eol = tokens.mark(Symbol::LineEnd)?;
+    Ok(value)
+}
+
 #[tactic(auto, unfolding(crate::specs::UnitReading::assign))]
 fn assign(
     alloc: Global,
@@ -132,14 +148,7 @@ fn assign(
     ensures count { IfOk result (λ x. x.count ≡ found.count + 1) }
 {
     let target = target(alloc, tokens, limits)?;
-    let _equals = tokens.mark(Symbol::Equals)?;
-    let value = expr(
-        alloc,
-        tokens,
-        limits.brackets,
-        limits.depth.saturating_sub(1),
-    )?;
-    let _eol = tokens.mark(Symbol::LineEnd)?;
+    let value = right_side(alloc, tokens, limits)?;
     Ok(assigned(found, target, value)?)
 }
 
