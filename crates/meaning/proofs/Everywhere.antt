@@ -47,14 +47,14 @@ turned q s t var h = record { alike = turned_alike s t var h.alike; declared = h
 iterated : (s t : Site) (directive : Directive) (var : List ℕ) (tree : Statements) → Same s t → Same (in_iteration s directive var tree) (in_iteration t directive var tree)
 iterated s t directive var tree h = record { alike = record { keys = h.alike.keys; width = h.alike.width; ring = h.alike.ring }; declared = h.declared }
 
-abbrev pub Alike_runs : Run → Run → Type 0
-Alike_runs f g = (c : Cells) → Agree (f c) (g c)
+abbrev pub RunAlike : Run → Run → Type 0
+RunAlike f g = (c : Cells) → Agree (f c) (g c)
 
-setting_agree : (s t : Site) (x : List ℕ) (z : ℤ) (f g : Run) → Same s t → Alike_runs f g → Alike_runs (with_variable s x z f) (with_variable t x z g)
+setting_agree : (s t : Site) (x : List ℕ) (z : ℤ) (f g : Run) → Same s t → RunAlike f g → RunAlike (with_variable s x z f) (with_variable t x z g)
 setting_agree s t x z f g h k c =
     ap (λ o. (f (set_at o (Some (Index z)) c)).out) (same_place s t x [] h.alike) ∙ k (set_at (place_of t x []) (Some (Index z)) c)
 
-setting_all_agree : (s t : Site) (hs : Heads) (i : ℕ) (f g : Run) → Same s t → Alike_runs f g → Alike_runs (with_variables s hs i f) (with_variables t hs i g)
+setting_all_agree : (s t : Site) (hs : Heads) (i : ℕ) (f g : Run) → Same s t → RunAlike f g → RunAlike (with_variables s hs i f) (with_variables t hs i g)
 setting_all_agree s t [] i f g h k c = k c
 setting_all_agree s t (x ∷ []) i f g h k c = setting_agree s t x.0 (value_at x.1 i) f g h k c
 setting_all_agree s t (x ∷ y ∷ hs) i f g h k c =
@@ -81,7 +81,7 @@ names_agree : (s t : Site) (directive : Directive) (var : List ℕ) (tree : Stat
 names_agree s t directive var tree h = ap (λ (xs : List (List ℕ)). filter (λ x. is_private (sharing_in var directive tree x)) xs) h.declared
 
 one_iteration_agree : (s t : Site) (directive : Directive) (var : List ℕ) (hs : Heads) (tree : Statements) (f g : Site → Run)
-    → ((u v : Site) → Same u v → Alike_runs (f u) (g v)) → Same s t → (i : ℕ) → Alike_runs (one_iteration s directive var hs tree f i) (one_iteration t directive var hs tree g i)
+    → ((u v : Site) → Same u v → RunAlike (f u) (g v)) → Same s t → (i : ℕ) → RunAlike (one_iteration s directive var hs tree f i) (one_iteration t directive var hs tree g i)
 one_iteration_agree s t directive var hs tree f g k h i c =
     let ms : List (List ℕ) = private_names s directive var tree in
     let ns : List (List ℕ) = private_names t directive var tree in
@@ -93,13 +93,13 @@ one_iteration_agree s t directive var hs tree f g k h i c =
     (k (in_iteration s directive var tree) (in_iteration t directive var tree) (iterated s t directive var tree h)) (with_all_unset t ns c))
     (λ b. refl)
 
-either_agree : (b : Bool) (f g : Site → Run) → ((u v : Site) → Same u v → Alike_runs (f u) (f v)) → ((u v : Site) → Same u v → Alike_runs (g u) (g v))
-    → (u v : Site) → Same u v → Alike_runs ((if b then f else g) u) ((if b then f else g) v)
+either_agree : (b : Bool) (f g : Site → Run) → ((u v : Site) → Same u v → RunAlike (f u) (f v)) → ((u v : Site) → Same u v → RunAlike (g u) (g v))
+    → (u v : Site) → Same u v → RunAlike ((if b then f else g) u) ((if b then f else g) v)
 either_agree true f g h k u v e = h u v e
 either_agree false f g h k u v e = k u v e
 
 mutual
-  run_same : (b : Statement) (s t : Site) → SameFor (is_sequential b) s t → Alike_runs (run b s) (run b t)
+  run_same : (b : Statement) (s t : Site) → SameFor (is_sequential b) s t → RunAlike (run b s) (run b t)
   run_same (assignment line atomic p e) s t h c =
       line_agree line (assignment_by s c atomic p e (increment_terms s.ring p e)) (assignment_by t c atomic p e (increment_terms t.ring p e))
       (ap (λ b. (assignment_by s c atomic p e (if b then rest_terms p e else None)).out) (h.alike.ring p.name) ∙ assigned_agree s t c atomic p e (increment_terms t.ring p e) h.alike)
@@ -124,23 +124,23 @@ mutual
       (either_agree (is_nest directive body) (run_inner body) (run_all body) (λ u v e. run_inner_same body u v e) (λ u v e. run_all_same body u v (for_any (are_sequential body) u v e))) g) c)
       (λ d. refl))
 
-  run_all_same : (b : Statements) (s t : Site) → SameFor (are_sequential b) s t → Alike_runs (run_all b s) (run_all b t)
+  run_all_same : (b : Statements) (s t : Site) → SameFor (are_sequential b) s t → RunAlike (run_all b s) (run_all b t)
   run_all_same no_statements s t h c = refl
   run_all_same (statement b bs) s t h c =
       then_agree (run b s c) (run b t c) (run_all bs s) (run_all bs t)
       (run_same b s t (left_same (is_sequential b) (are_sequential bs) s t h) c) (run_all_same bs s t (right_same (is_sequential b) (are_sequential bs) s t h))
 
-  run_inner_same : (b : Statements) (s t : Site) → Same s t → Alike_runs (run_inner b s) (run_inner b t)
+  run_inner_same : (b : Statements) (s t : Site) → Same s t → RunAlike (run_inner b s) (run_inner b t)
   run_inner_same no_statements s t h c = refl
   run_inner_same (statement b bs) s t h c = run_within_same b s t h c
 
-  run_within_same : (b : Statement) (s t : Site) → Same s t → Alike_runs (run_within b s) (run_within b t)
+  run_within_same : (b : Statement) (s t : Site) → Same s t → RunAlike (run_within b s) (run_within b t)
   run_within_same (assignment line atomic p e) s t h c = refl
   run_within_same (branch line arms other) s t h c = refl
   run_within_same (loop line number directive var first last step body) s t h c = run_all_same body s t (for_any (are_sequential body) s t h) c
 
-  arms_same : (a : Arms) (line m : ℕ) (other : Site → Run) (s t : Site) → Alike_runs (other s) (other t) → SameFor (are_arms_sequential a) s t
-      → Alike_runs (run_arms a line m other s) (run_arms a line m other t)
+  arms_same : (a : Arms) (line m : ℕ) (other : Site → Run) (s t : Site) → RunAlike (other s) (other t) → SameFor (are_arms_sequential a) s t
+      → RunAlike (run_arms a line m other s) (run_arms a line m other t)
   arms_same no_arms line m other s t e h c = in_arm_agree m (other s) (other t) c (e c)
   arms_same (arm test body arms) line m other s t e h c =
       then_agree (inside (condition m) (at_line line (holds test s c))) (inside (condition m) (at_line line (holds test t c))) _ _
@@ -153,5 +153,5 @@ pub runs_everywhere : RunsGoByKeys
 runs_everywhere = λ s t keys width ring body declared c. run_all_same body s t (record { alike = record { keys = keys; width = width; ring = ring }; declared = declared }) c
 
 -- without parallel loops
-pub sequential_agree : (s t : Site) → Alike s t → (body : Statements) → are_sequential body ≡ true → Alike_runs (run_all body s) (run_all body t)
+pub sequential_agree : (s t : Site) → Alike s t → (body : Statements) → are_sequential body ≡ true → RunAlike (run_all body s) (run_all body t)
 sequential_agree s t h body q c = run_all_same body s t (record { alike = h; declared = λ e. absurd (cc) }) c

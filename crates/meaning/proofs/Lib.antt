@@ -19,6 +19,7 @@ mod Collapsed
 pub mod Reducing
 mod Bytes
 pub mod Widely
+pub mod StopsReduced
 pub mod Quiet
 pub mod LogFold
 pub mod TrapProofs

@@ -10,9 +10,10 @@ use Rattle.meaning.specs.declared.value.Value.{Value}
 use Rattle.meaning.specs.declared.value.Value.TheVariants.{Index, Ring}
 use Rattle.meaning.specs.declared.value.TrapAt.{TrapAt}
 use Rattle.fl_ast.specs.Tree.{Statements}
-use Rattle.meaning.specs.Logs.{Event, begins, touches, pushes, ends, traps, Log, silence, single, touched, sets, both, within}
+use Rattle.meaning.specs.Logs.{Event, begins, touches, pushes, ends, traps, Log, silence, single, touched, sets, both, within, events}
 use Rattle.meaning.specs.Sites.{Cells, Site}
 use Rattle.meaning.specs.Statements.{run_all}
+use Rattle.meaning.specs.Stops.{Judge, Limits, first_stop, ticks}
 use Rattle.meaning.specs.Values.{Found, binary_result, negation_result, power_result, larger_result, smaller_result, absolute_result, relates}
 
 abbrev pub reduced_dual : Width → Dual → Dual
@@ -90,3 +91,10 @@ RunsRespect w =
 
 abbrev pub RunsRespectWidths : Type 0
 RunsRespectWidths = (w : Width) → RunsRespect w
+
+-- and so they have the same first stop and the same ticks, whatever is judged a conflict and whatever the limits are
+abbrev pub StopsRespectWidths : Type 0
+StopsRespectWidths =
+    (w : Width) (body : Statements) (site : Site) → site.width ≡ w → (c d : Cells) → reduced_cells w c ≡ reduced_cells w d → (judge : Judge) (limits : Limits) →
+    (first_stop judge limits (events (run_all body site c).log) ≡ first_stop judge limits (events (run_all body site d).log))
+    × (ticks judge limits (events (run_all body site c).log) ≡ ticks judge limits (events (run_all body site d).log))

@@ -1,5 +1,5 @@
 ghost use Rattle.meaning.specs.Laws.{TangentsAreUnseen, TangentsAreLinear, ConflictIsReported, ValuesGoByKeys, VariablesFit, CellsAreReplayed, TrapsAreTold, RunsGoByKeys, ReportsAreOne};
-ghost use Rattle.meaning.specs.Widths.{WidthsAreRespected, WordsAreResidues, RunsRespectWidths};
+ghost use Rattle.meaning.specs.Widths.{WidthsAreRespected, WordsAreResidues, RunsRespectWidths, StopsRespectWidths};
 
 /// Values, events, conflicts and traps of a program don't depend on the tangents that it begins with.
 pub fn tangents_are_unseen()
@@ -38,9 +38,10 @@ pub fn widths_are_respected()
     ensures words { WordsAreResidues }
 {}
 
-/// Runs on data of B bits from cells that are equal modulo 2^B stay so, with their logs and stops.
+/// Runs on data of B bits from cells that are equal modulo 2^B stay so, with their logs; they stop at the same event.
 pub fn runs_respect_widths()
-    ensures { RunsRespectWidths }
+    ensures runs { RunsRespectWidths }
+    ensures stops { StopsRespectWidths }
 {}
 
 /// A run traps exactly where its log tells a trap, and it is that one.

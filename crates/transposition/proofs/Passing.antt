@@ -16,7 +16,7 @@ use Rattle.meaning.specs.Sites.{Cells, Site, in_iteration as site_in_iteration, 
 use Rattle.meaning.specs.Conflicts.{clashes, Clash, IsClash, Reports, conflict}
 use Rattle.meaning.specs.Expressions.{holds}
 use Rattle.meaning.specs.Statements.{Run, with_log, turns_of, value_at, set_at, set_log_at, turns, loop_words, one_turn, run_turns, with_all_unset, unset_log, private_words, with_variables, Heads, iterations, heads_of, words_of_all, run_parallel, choice, in_arm, run, run_all, run_inner, run_arms}
-use Rattle.meaning.specs.Stops.{Limits, Seen, unseen, Stop, at_end, over_statements, over_touches, over_words, by_conflict, unless_conflict, stop_or, stop_after}
+use Rattle.meaning.specs.Stops.{Limits, Seen, nothing_seen, Stop, at_end, over_statements, over_touches, over_words, by_conflict, unless_conflict, stop_or, stop_after}
 use Rattle.meaning.proofs.Reported.{reported}
 use Rattle.transposition.specs.Worlds.{World, in_turn, in_iteration}
 use Rattle.transposition.specs.Law.{Use, HasTouch, SharedApart, Calm}
@@ -365,4 +365,4 @@ mutual
       (λ since h q r. calm_arms arms line (m + 1) others w u s s2 since sound.1 more h q r)
 
 pub unstopped : UnstoppedIsCalm
-unstopped w u xs limits s s2 sound h e r = calm_all xs w u s s2 [] sound h (passes_of limits unseen (events_in 0 (run_all xs w.site s).log) e) r
+unstopped w u xs limits s s2 sound h e r = calm_all xs w u s s2 [] sound h (passes_of limits nothing_seen (events_in 0 (run_all xs w.site s).log) e) r

@@ -10,6 +10,7 @@ use Rattle.fl_ast.specs.declared.kind.RelOp.TheVariants as rel
 use Rattle.fl_ast.specs.declared.kind.Fun.{Fun}
 use Rattle.fl_ast.specs.declared.kind.Fun.TheVariants.{Max, Min, Abs, Mod}
 use Rattle.fl_ast.specs.Tree.{Expression, literal, get, minus, binary, power, call, Expressions, no_expressions, expression}
+use Rattle.ring_core.specs.Ring.{signed_at}
 use Rattle.ring_core.specs.declared.ring.Width.{Width}
 use Rattle.ring_core.specs.declared.ring.Width.TheVariants.{W8, W16, W64}
 use Rattle.ring_core.specs.declared.index.IndexTrap.{IndexTrap}
@@ -17,7 +18,7 @@ use Rattle.ring_core.specs.Index.{exact_index, index_div, index_rem}
 use Rattle.meaning.specs.declared.value.Dual.{Dual}
 use Rattle.meaning.specs.declared.value.Value.{Value}
 use Rattle.meaning.specs.declared.value.Value.TheVariants.{Index, Ring}
-use Rattle.meaning.specs.Values.{Found, of_index, as_dual, signed_at, rank, whole_numbers, literal_value, index_result, ring_result, binary_result, negation_result, power_result, larger_result, smaller_result, absolute_result, remainder, call_result, relates}
+use Rattle.meaning.specs.Values.{Found, of_index, as_dual, rank, whole_numbers, literal_value, index_result, ring_result, binary_result, negation_result, power_result, larger_result, smaller_result, absolute_result, remainder, call_result, relates}
 use Rattle.meaning.specs.Logs.{lift, ◌>>=◌}
 use Rattle.meaning.specs.Sites.{Cells, place_of, kind_of}
 use Rattle.meaning.specs.Expressions.{read, value_of, values_of}
