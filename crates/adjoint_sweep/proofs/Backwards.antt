@@ -64,11 +64,6 @@ fit_at names [] k x f l h = absurd (omega arith)
 fit_at names (y ∷ xs) zero x f l h = rw h (and_parts (is_fit names y) (are_fit names xs) f).0
 fit_at names (y ∷ xs) (suc k) x f l h = let m : k < length xs = omega arith in fit_at names xs k x (and_parts (is_fit names y) (are_fit names xs) f).1 m h
 
-pub straight_at : (es : List Shape) (xs : List ResolvedStmt) (k : ℕ) (x : ResolvedStmt) → are_straight (map (statement_back es) xs) ≡ true → k < length xs → x ≡ get_or xs k x → is_straight_statement (statement_back es x) ≡ true
-straight_at es [] k x f l h = absurd (omega arith)
-straight_at es (y ∷ xs) zero x f l h = rw h (and_parts (is_straight_statement (statement_back es y)) (are_straight (map (statement_back es) xs)) f).0
-straight_at es (y ∷ xs) (suc k) x f l h = let m : k < length xs = omega arith in straight_at es xs k x (and_parts (is_straight_statement (statement_back es y)) (are_straight (map (statement_back es) xs)) f).1 m h
-
 -- the words and adjoints at a statement, going back
 pub record Reached (keys : List Key) (all : List Statement) (before ws bs last : List ℕ) (done : List Statement) : Type 0 where
   pub words : ws ≡ words_after_all keys before done

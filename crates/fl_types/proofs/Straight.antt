@@ -1,5 +1,5 @@
 -- What is supported is straight.
-use Rattle.std.proofs.Common.{◌≡◌, List, [], ◌∷◌, true, refl}
+use Rattle.std.proofs.Common.{◌≡◌, ℕ, zero, suc, ◌<◌, List, [], ◌∷◌, length, get_or, Bool, true, false, refl, arith}
 use Rattle.std.specs.Prelude.{◌||◌, not, map}
 use Rattle.std.proofs.lemmas.Bool.{and_parts, and_from}
 use Rattle.fl_ast.specs.declared.decl.Decl.{Decl}
@@ -43,3 +43,9 @@ supported_straight p h =
     let a = and_parts (are_supported_names p) _ h in
     let b = and_parts (are_supported_decls p.args p.decls) (is_supported_body p.decls p.body) a.1 in
     straight_body p.decls p.body b.1
+
+-- each statement of straight lines is straight
+pub straight_at : {A : Type 0} (tree : A → Statement) (xs : List A) (k : ℕ) (x : A) → are_straight (map tree xs) ≡ true → k < length xs → x ≡ get_or xs k x → is_straight_statement (tree x) ≡ true
+straight_at tree [] k x f l h = absurd (omega arith)
+straight_at tree (y ∷ xs) zero x f l h = rw h (and_parts (is_straight_statement (tree y)) (are_straight (map tree xs)) f).0
+straight_at tree (y ∷ xs) (suc k) x f l h = let m : k < length xs = omega arith in straight_at tree xs k x (and_parts (is_straight_statement (tree y)) (are_straight (map tree xs)) f).1 m h

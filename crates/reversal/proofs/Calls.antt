@@ -1,6 +1,5 @@
 -- The arguments of a call in an adjoint.
-use Rattle.std.proofs.Common.{◌≡◌, ℕ, ◌≤◌, List, [], ◌∷◌, map, length, take, refl, ap, ◌∙◌}
-use Rattle.std.proofs.lemmas.List.{take_all}
+use Rattle.std.proofs.Common.{◌≡◌, List, [], ◌∷◌, map, refl, ap, ◌∙◌}
 use Rattle.fl_ast.specs.declared.expr.Expr.{Expr}
 use Rattle.fl_ast.specs.declared.adjoint.AExpr.{AExpr}
 use Rattle.fl_ast.specs.Tree.{expr_tree, expr_trees}

@@ -2,8 +2,8 @@
 -- reverse part takes the statements from the last to the first, each as follows. The target's adjoint is moved to a
 -- temporary and cleared, the target gets back what it held, and each operand's adjoint grows by the temporary times
 -- the partial derivative.
--- Written so far: straight lines of sums, differences and products.
-use Rattle.std.specs.Prelude.{ℕ, Bool, true, false, not, if◌then◌else◌, bytes_eq, List, [], ◌∷◌, ◌++◌, codes}
+-- Written so far: straight lines, which `are_straight` tells. Whatever isn't one has no adjoint here, and the code asks that it doesn't come.
+use Rattle.std.specs.Prelude.{ℕ, Bool, false, not, if◌then◌else◌, bytes_eq, List, [], ◌∷◌, ◌++◌, codes}
 use Rattle.std.specs.List.{flat_map, list_any}
 use Rattle.fl_ast.specs.Sizes.{bytes_of}
 use Rattle.fl_ast.specs.declared.kind.Kind.{Kind}

@@ -1,9 +1,11 @@
 //! What the adjoints of an expression's operands grow by.
 
-ghost use Rattle.std.specs.Prelude.{◌≡◌, ◌++◌, ◌∷◌, [], IfOk, OnOk, not, map};
-ghost use Rattle.fl_ast.specs.Tree.{place_tree, expr_tree, expr_trees};
+ghost use Rattle.std.specs.Prelude.{◌≡◌, true, ◌++◌, ◌∷◌, [], IfOk, OnOk, not, map};
+ghost use Rattle.fl_ast.specs.Tree.{place_tree, expr_tree, expr_trees, get as get_lem};
 ghost use Rattle.fl_ast.specs.AdjointTree.{aexpr_tree, aexpr_trees, astmt_tree, adjoint_get, adjoint_literal, adjoint_binary};
 ghost use Rattle.fl_ast.specs.declared.kind.Kind.TheVariants as kind;
+ghost use Rattle.fl_types.specs.Supported.{is_supported_op};
+ghost use Rattle.fl_types.specs.Straight.{is_straight_expression};
 ghost use Rattle.reversal.specs.Reversed as spec;
 
 use crate::name::{adjoint_place, is_active};
@@ -99,26 +101,42 @@ fn times(alloc: Global, amount: &AExpr, factor: &Expr) -> Result<Boxed<AExpr>, M
 }
 
 /// What the amount becomes at an operand, beside the other one.
-fn amount_at(
-    alloc: Global,
-    op: BinOp,
-    amount: &AExpr,
-    other: &Expr,
-) -> Result<Boxed<AExpr>, Memory>
+fn amount_at(alloc: Global, op: BinOp, amount: &AExpr, other: &Expr) -> Result<Boxed<AExpr>, Memory>
+    requires { is_supported_op op ≡ true }
     ensures { IfOk result (λ e. aexpr_tree e ≡ spec.amount_at op (aexpr_tree amount.now) (expr_tree other.now)) }
 {
     match op {
         BinOp::Mul => times(alloc, amount, other),
-        BinOp::Add | BinOp::Sub | BinOp::Div => copied(alloc, amount),
+        BinOp::Add | BinOp::Sub => copied(alloc, amount),
+        BinOp::Div => unreachable!(),
     }
 }
 
+/// What the amount becomes at the two operands of an operation.
+fn amounts_at(
+    alloc: Global,
+    op: BinOp,
+    amount: &AExpr,
+    left: &Expr,
+    right: &Expr,
+) -> Result<(Boxed<AExpr>, Boxed<AExpr>), Memory>
+    requires { is_supported_op op ≡ true }
+    ensures left { IfOk result (λ both. aexpr_tree both.0 ≡ spec.amount_at op (aexpr_tree amount.now) (expr_tree right.now)) }
+    ensures right { IfOk result (λ both. aexpr_tree both.1 ≡ spec.amount_at op (aexpr_tree amount.now) (expr_tree left.now)) }
+{
+    let at_left = amount_at(alloc, op, amount, right)?;
+    let at_right = amount_at(alloc, op, amount, left)?;
+    Ok((at_left, at_right))
+}
+
 fn sign_at_right(op: BinOp, negative: bool) -> bool
+    requires op { is_supported_op op ≡ true }
     ensures { result ≡ spec.sign_at_right op negative }
 {
     match op {
         BinOp::Sub => !negative,
-        BinOp::Add | BinOp::Mul | BinOp::Div => negative,
+        BinOp::Add | BinOp::Mul => negative,
+        BinOp::Div => unreachable!(),
     }
 }
 
@@ -152,6 +170,25 @@ pub struct Growth<'a> {
     pub line: u32,
 }
 
+/// Adds the increment of a place's adjoint, where its name is active.
+fn push_place(
+    alloc: Global,
+    growth: &Growth<'_>,
+    place: &Place,
+    negative: bool,
+    amount: &AExpr,
+    statements: &mut Items<AStmt>,
+) -> Result<(), Memory>
+    ensures { OnOk result (map astmt_tree statements.new ≡ map astmt_tree statements.old
+        ++ spec.increments growth.now.active.now.names growth.now.line
+        (get_lem (place_tree place.now).name (place_tree place.now).subscripts) negative (aexpr_tree amount.now)) }
+{
+    if is_active(growth.active, &place.name) {
+        statements.push(grown(alloc, growth.line, negative, place, amount)?)?;
+    }
+    Ok(())
+}
+
 /// Adds the increments of an expression's operands to the statements.
 pub fn push_increments(
     alloc: Global,
@@ -161,27 +198,23 @@ pub fn push_increments(
     amount: &AExpr,
     statements: &mut Items<AStmt>,
 ) -> Result<(), Memory>
+    requires { is_straight_expression (expr_tree expr.now) ≡ true }
     ensures { OnOk result (map astmt_tree statements.new ≡ map astmt_tree statements.old
         ++ spec.increments growth.now.active.now.names growth.now.line (expr_tree expr.now) negative (aexpr_tree amount.now)) }
 {
     match expr {
-        Expr::Get(place) => {
-            if is_active(growth.active, &place.name) {
-                statements.push(grown(alloc, growth.line, negative, place, amount)?)?;
-            }
-            Ok(())
-        }
+        Expr::Get(place) => push_place(alloc, growth, place, negative, amount, statements),
         Expr::Neg(inner) => {
             push_increments(alloc, growth, inner.get(), !negative, amount, statements)
         }
         Expr::Bin { op, left, right } => {
             let (left, right) = (left.get(), right.get());
-            let at_left = amount_at(alloc, *op, amount, right)?;
+            let (at_left, at_right) = amounts_at(alloc, *op, amount, left, right)?;
             push_increments(alloc, growth, left, negative, at_left.get(), statements)?;
-            let at_right = amount_at(alloc, *op, amount, left)?;
             let negative = sign_at_right(*op, negative);
             push_increments(alloc, growth, right, negative, at_right.get(), statements)
         }
-        Expr::Lit { .. } | Expr::Pow { .. } | Expr::Call { .. } => Ok(()),
+        Expr::Lit { .. } => Ok(()),
+        Expr::Pow { .. } | Expr::Call { .. } => unreachable!(),
     }
 }

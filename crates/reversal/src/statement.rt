@@ -1,9 +1,10 @@
 //! The forward and the reverse of one statement.
 
-ghost use Rattle.std.specs.Prelude.{◌≡◌, ◌++◌, ◌∷◌, [], IfOk, OnOk, map, false};
+ghost use Rattle.std.specs.Prelude.{◌≡◌, true, ◌++◌, ◌∷◌, [], IfOk, OnOk, map, false};
 ghost use Rattle.fl_ast.specs.Tree.{place_tree, expr_tree, stmt_tree, get as get_lem};
 ghost use Rattle.fl_ast.specs.AdjointTree.{aexpr_tree, astmt_tree, push as push_lem, pop as pop_lem, adjoint_assignment, adjoint_get, adjoint_literal};
 ghost use Rattle.fl_ast.specs.declared.kind.Kind.TheVariants as kind;
+ghost use Rattle.fl_types.specs.Straight.{is_straight_expression, is_straight_statement};
 ghost use Rattle.reversal.specs.Reversed as spec;
 
 use crate::increments::{Growth, get, in_adjoint, push_increments, zero};
@@ -53,6 +54,7 @@ fn kept(
 
 /// Adds the forward of a statement.
 pub fn push_forward(alloc: Global, stmt: &Stmt, forward: &mut Items<AStmt>) -> Result<(), Memory>
+    requires { is_straight_statement (stmt_tree stmt.now) ≡ true }
     ensures { OnOk result (map astmt_tree forward.new ≡ map astmt_tree forward.old ++ spec.forward_of (stmt_tree stmt.now)) }
 {
     match stmt {
@@ -65,7 +67,7 @@ pub fn push_forward(alloc: Global, stmt: &Stmt, forward: &mut Items<AStmt>) -> R
             forward.push(push(alloc, *line, target)?)?;
             forward.push(kept(alloc, *line, *atomic, target, value)?)
         }
-        Stmt::If { .. } | Stmt::Do { .. } => Ok(()),
+        Stmt::If { .. } | Stmt::Do { .. } => unreachable!(),
     }
 }
 
@@ -116,6 +118,7 @@ fn push_grown(
     value: &Expr,
     reverse: &mut Items<AStmt>,
 ) -> Result<(), Memory>
+    requires { is_straight_expression (expr_tree value.now) ≡ true }
     ensures { OnOk result (map astmt_tree reverse.new ≡ map astmt_tree reverse.old
         ++ spec.increments active.now.names line (expr_tree value.now) false (adjoint_get spec.temporary)) }
 {
@@ -132,6 +135,7 @@ fn push_assignment(
     value: &Expr,
     reverse: &mut Items<AStmt>,
 ) -> Result<(), Memory>
+    requires { is_straight_expression (expr_tree value.now) ≡ true }
     ensures { OnOk result (map astmt_tree reverse.new ≡ map astmt_tree reverse.old
         ++ spec.reverse_of_assignment active.now.names line (place_tree target.now) (expr_tree value.now)) }
 {
@@ -150,6 +154,7 @@ pub fn push_reverse(
     stmt: &Stmt,
     reverse: &mut Items<AStmt>,
 ) -> Result<(), Memory>
+    requires { is_straight_statement (stmt_tree stmt.now) ≡ true }
     ensures { OnOk result (map astmt_tree reverse.new ≡ map astmt_tree reverse.old ++ spec.reverse_of active.now.names (stmt_tree stmt.now)) }
 {
     match stmt {
@@ -159,6 +164,6 @@ pub fn push_reverse(
             value,
             ..
         } => push_assignment(alloc, active, *line, target, value, reverse),
-        Stmt::If { .. } | Stmt::Do { .. } => Ok(()),
+        Stmt::If { .. } | Stmt::Do { .. } => unreachable!(),
     }
 }

@@ -1,6 +1,7 @@
-ghost use Rattle.std.specs.Prelude.{◌≡◌, IfOk, map, reverse as reverse_list};
+ghost use Rattle.std.specs.Prelude.{◌≡◌, true, IfOk, map, reverse as reverse_list};
 ghost use Rattle.fl_ast.specs.AdjointTree.{adjoint_tree, astmt_tree};
-ghost use Rattle.fl_ast.specs.Tree.{program_tree};
+ghost use Rattle.fl_ast.specs.Tree.{program_tree, stmt_tree};
+ghost use Rattle.fl_types.specs.Straight.{are_straight};
 ghost use Rattle.reversal.specs.Reversed as spec;
 
 use crate::declare::{declared, doubled};
@@ -12,6 +13,7 @@ use fl_types::{Choices, NameSet, Typed};
 use std::alloc::Global;
 
 fn forward_part(alloc: Global, body: &[Stmt]) -> Result<Items<AStmt>, Memory>
+    requires { are_straight (map stmt_tree body.now) ≡ true }
     ensures { IfOk result (λ ss. map astmt_tree ss ≡ spec.forward_part body.now) }
 {
     let mut forward = Items::new(alloc);
@@ -22,6 +24,7 @@ fn forward_part(alloc: Global, body: &[Stmt]) -> Result<Items<AStmt>, Memory>
 }
 
 fn reverse_part(alloc: Global, active: &NameSet, body: &[Stmt]) -> Result<Items<AStmt>, Memory>
+    requires { are_straight (map stmt_tree body.now) ≡ true }
     ensures { IfOk result (λ ss. map astmt_tree ss ≡ spec.reverse_part active.now.names body.now) }
 {
     let mut reverse = Items::new(alloc);
@@ -48,6 +51,7 @@ pub fn reverse(
 
 #[tactic(auto, unfolding(crate::specs::Reversed::reversed))]
 fn of_program(alloc: Global, program: &Program, active: &NameSet) -> Result<Adjoint, Memory>
+    requires { are_straight (map stmt_tree program.now.body) ≡ true }
     ensures { IfOk result (λ adjoint. adjoint_tree adjoint ≡ spec.reversed program.now active.now.names) }
 {
     let name = adjoint_name(alloc, &program.name)?;

@@ -1,7 +1,8 @@
 use Rattle.std.proofs.Common.{◌≡◌, ◌-◌, ◌<◌, suc, length, map, take, arith, subst}
 use Rattle.store_core.specs.Keys.{keys_of}
 use Rattle.resolved.specs.ResolvedStmts.{statement_back}
-use Rattle.adjoint_sweep.proofs.Backwards.{Reached, fit_at, straight_at, one_back}
+use Rattle.fl_types.proofs.Straight.{straight_at}
+use Rattle.adjoint_sweep.proofs.Backwards.{Reached, fit_at, one_back}
 use Rattle.adjoint_sweep.proofs.statements.reverse.Goals as goal
 
 pub go_back-requires-clause-fit : goal.go_back-requires-clause-fit
@@ -10,7 +11,7 @@ go_back-requires-clause-fit c =
 
 pub go_back-requires-clause-straight : goal.go_back-requires-clause-straight
 go_back-requires-clause-straight c =
-    straight_at c.args.table.now.0 c.args.stmts.now (c.loop-at.at - 1) c.index-stmts-at.result c.requires.straight (omega (arith, c.loop-at.invariant.few, c.loop-at-test.true)) c.index-stmts-at.is
+    straight_at (statement_back c.args.table.now.0) c.args.stmts.now (c.loop-at.at - 1) c.index-stmts-at.result c.requires.straight (omega (arith, c.loop-at.invariant.few, c.loop-at-test.true)) c.index-stmts-at.is
 
 pub loop-at-preserved : goal.loop-at-preserved
 loop-at-preserved c = record {
