@@ -8,7 +8,7 @@ use Rattle.operations.proofs.Reached.{reached}
 use Rattle.op_table.specs.declared.view.View.{View}
 use Rattle.op_table.specs.Rule.{Work, lists, claim_word, IsKept}
 use Rattle.op_table.specs.Shown.{IsShown}
-use Rattle.op_table.proofs.Rule.{length_joint}
+use Rattle.operations.proofs.OneCell.{length_joint}
 
 -- a chunk's holder, by its claim word
 abbrev holder_by : ℕ → ℕ → Option ℕ

@@ -14,7 +14,7 @@ use Rattle.operations.specs.Cell.{word_by}
 use Rattle.operations.specs.Order.{joint_cells, positions_after, is_add}
 use Rattle.operations.proofs.OpLaws.{read_other}
 use Rattle.operations.proofs.Orders.{joint_step, joint_alone, went_here, went_else}
-use Rattle.operations.proofs.OneCell.{own_cell}
+use Rattle.operations.proofs.OneCell.{own_cell, length_joint}
 use Rattle.operations.proofs.Dues.{length_acts_all}
 use Rattle.op_table.specs.declared.view.View.{View}
 use Rattle.op_table.specs.Rule.{view, lists, position_of, advance, parts_of, Work, cell_word, claim_word, IsSeated, IsClaimed, IsKept}
@@ -24,10 +24,6 @@ within_next [] zero o rest e = absurd (let f : [] ≡ o ∷ rest = e in cc)
 within_next [] (suc i) o rest e = absurd (let f : [] ≡ o ∷ rest = e in cc)
 within_next (x ∷ os) zero o rest e = omega arith
 within_next (x ∷ os) (suc i) o rest e = let h = within_next os i o rest e in omega arith
-
-pub length_joint : (ops : ℕ → List Op) (at : ℕ → ℕ) (n : ℕ) (c : List ℕ) → length (joint_cells ops at n c) ≡ length c
-length_joint ops at zero c = refl
-length_joint ops at (suc n) c = length_acts_all (take (at n) (ops n)) (joint_cells ops at n c) ∙ length_joint ops at n c
 
 pub parts_set : (views : List View) (id : ℕ) (v w : View) → get_elem? views id ≡ some v → parts_of (set views id w) + v.parts ≡ parts_of views + w.parts
 parts_set [] id v w e = absurd (some-ne-none v (sym e))

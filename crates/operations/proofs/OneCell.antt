@@ -1,17 +1,119 @@
 -- Single cells, and races.
-use Rattle.std.proofs.Common.{◌≡◌, ◌≢◌, ℕ, zero, suc, ◌+◌, ◌<◌, ◌≤◌, false, List, [], ◌∷◌, length, take, get_or, refl, ap, sym, ◌∙◌, subst, arith, ◌⊎◌, inl, inr, ⊎_elim, Option, Some, None}
-use Rattle.std.specs.Prelude.{slice_index, slice_set, slice_index_or, Contains}
+use Rattle.std.proofs.Common.{◌≡◌, ◌≢◌, ℕ, zero, suc, ◌+◌, ◌%◌, ◌^◌, ◌<◌, ◌==◌, ◌||◌, if◌then◌else◌, Bool, true, false, true≢false, eq-eqb, ne_eqb, eqb-true, List, [], ◌∷◌, length, take, refl, ap, sym, ◌∙◌, subst, arith, ◌⊎◌, inl, inr, ⊎_elim, Option, Some, None}
+use Rattle.std.specs.Prelude.{slice_index, slice_index_or}
 use Rattle.std.proofs.lemmas.List.{get_or-set_same}
 use Rattle.operations.specs.declared.op.Op.{Op}
 use Rattle.operations.specs.declared.op.Op.TheVariants.{Load, Store, Bump, Add}
-use Rattle.operations.specs.Ops.{cell_of, acts, may_meet, Clear, ClearAll, Apart}
-use Rattle.operations.specs.Cell.{word_by}
-use Rattle.operations.specs.Order.{IsDisciplined}
+use Rattle.operations.specs.Ops.{cell_of, acts, acts_all, Clear, ClearAll, Apart}
+use Rattle.ring_core.specs.Ring.{ring_add}
+use Rattle.operations.specs.Cell.{word_by, word_after, joint_word, stores_to, is_stored, amounts, joint_amounts}
+use mathlib.Core.Logic.{dite}
+use native.Mathlib.Decide.{ℕ_discrete}
+use Rattle.operations.specs.Order.{IsDisciplined, joint_cells}
 use Rattle.operations.specs.Race.{Races, IsToldRace, ComesFirst}
-use Rattle.operations.proofs.OpLaws.{acts_is}
+use Rattle.operations.proofs.OpLaws.{acts_is, read_other}
+use Rattle.operations.proofs.Dues.{length_acts_all}
 
 pub own_cell : (o : Op) (c : List ℕ) → cell_of o < length c → slice_index (acts o c) (cell_of o) ≡ word_by o (slice_index c (cell_of o))
 own_cell o c lt = ap (λ l. slice_index l (cell_of o)) (acts_is o c) ∙ get_or-set_same c (cell_of o) (word_by o (slice_index c (cell_of o))) 0 lt
+
+pub length_joint : (ops : ℕ → List Op) (at : ℕ → ℕ) (n : ℕ) (c : List ℕ) → length (joint_cells ops at n c) ≡ length c
+length_joint ops at zero c = refl
+length_joint ops at (suc n) c = length_acts_all (take (at n) (ops n)) (joint_cells ops at n c) ∙ length_joint ops at n c
+
+cell_after : (o : Op) (p : ℕ) (c : List ℕ) → p < length c → slice_index (acts o c) p ≡ (if p == cell_of o then word_by o (slice_index c p) else slice_index c p)
+cell_after o p c lt = dite (ℕ_discrete p (cell_of o))
+    (λ e. rw (eq-eqb p (cell_of o) e) (subst (λ q. slice_index (acts o c) q ≡ word_by o (slice_index c q)) (sym e) (own_cell o c (subst (λ q. q < length c) e lt))))
+    (λ ne. rw (ne_eqb p (cell_of o) ne) (read_other o p c ne))
+
+pub cell_after_all : (os : List Op) (p : ℕ) (c : List ℕ) → p < length c → slice_index (acts_all os c) p ≡ word_after p os (slice_index c p)
+cell_after_all [] p c lt = refl
+cell_after_all (o ∷ os) p c lt = cell_after_all os p (acts o c) (let e = length_acts_all (o ∷ []) c in omega arith) ∙ ap (word_after p os) (cell_after o p c lt)
+
+pub joint_cell : (ops : ℕ → List Op) (at : ℕ → ℕ) (n p : ℕ) (c : List ℕ) → p < length c → slice_index (joint_cells ops at n c) p ≡ joint_word p ops at n (slice_index c p)
+joint_cell ops at zero p c lt = refl
+joint_cell ops at (suc n) p c lt = cell_after_all (take (at n) (ops n)) p (joint_cells ops at n c) (let e = length_joint ops at n c in omega arith) ∙ ap (word_after p (take (at n) (ops n))) (joint_cell ops at n p c lt)
+
+-- ---- a cell that one list stores
+
+or_cases : (a b : Bool) → (a || b) ≡ true → (a ≡ true) ⊎ (b ≡ true)
+or_cases true b e = inl refl
+or_cases false b e = inr e
+
+or_left : (a b : Bool) → (a || b) ≡ false → a ≡ false
+or_left a b e = grind arith
+
+or_right : (a b : Bool) → (a || b) ≡ false → b ≡ false
+or_right a b e = grind arith
+
+store_clear : (p : ℕ) (o u : Op) → stores_to p o ≡ true → Clear o u → p ≢ cell_of u
+store_clear p (Load q) u s h e = true≢false (sym s)
+store_clear p (Store q v) u s h e = h refl (sym (eqb-true p q s) ∙ e)
+store_clear p (Bump q a) u s h e = h refl (sym (eqb-true p q s) ∙ e)
+store_clear p (Add q a) u s h e = true≢false (sym s)
+
+stored_clear : (p : ℕ) (os : List Op) (u : Op) → is_stored p os ≡ true → ClearAll os u → p ≢ cell_of u
+stored_clear p [] u s h = absurd (true≢false (sym s))
+stored_clear p (o ∷ os) u s h = ⊎_elim (λ a. store_clear p o u a h.0) (λ b. stored_clear p os u b h.1) (or_cases (stores_to p o) (is_stored p os) s)
+
+-- operations that are apart from a store leave its cell
+left_alone : (p : ℕ) (os us : List Op) (i x : ℕ) → is_stored p os ≡ true → Apart os us → word_after p (take i us) x ≡ x
+left_alone p os us zero x s h = refl
+left_alone p os [] (suc i) x s h = refl
+left_alone p os (u ∷ us) (suc i) x s h =
+    let e : (if p == cell_of u then word_by u x else x) ≡ x = rw (ne_eqb p (cell_of u) (stored_clear p os u s h.0)) refl in
+    ap (word_after p (take i us)) e ∙ left_alone p os us i x s h.1
+
+joint_none : (p : ℕ) (ops : ℕ → List Op) (at : ℕ → ℕ) (n x : ℕ) → ((j y : ℕ) → j < n → word_after p (take (at j) (ops j)) y ≡ y) → joint_word p ops at n x ≡ x
+joint_none p ops at zero x h = refl
+joint_none p ops at (suc n) x h = h n (joint_word p ops at n x) (omega arith) ∙ joint_none p ops at n x (λ j y lt. h j y (omega arith))
+
+joint_one : (p : ℕ) (ops : ℕ → List Op) (at : ℕ → ℕ) (k n x : ℕ) → k < n → ((j y : ℕ) → j < n → j ≢ k → word_after p (take (at j) (ops j)) y ≡ y) → joint_word p ops at n x ≡ word_after p (take (at k) (ops k)) x
+joint_one p ops at k zero x lt h = absurd (omega arith)
+joint_one p ops at k (suc n) x lt h = dite (ℕ_discrete k n)
+    (λ e. subst (λ m. word_after p (take (at n) (ops n)) (joint_word p ops at n x) ≡ word_after p (take (at m) (ops m)) x) (sym e) (ap (word_after p (take (at n) (ops n))) (joint_none p ops at n x (λ j y l. h j y (omega arith) (omega arith)))))
+    (λ ne. let ne' : n ≢ k = λ e. ne (sym e) in h n (joint_word p ops at n x) (omega arith) ne' ∙ joint_one p ops at k n x (omega arith) (λ j y l. h j y (omega arith)))
+
+pub stored_cell : (ops : ℕ → List Op) (n : ℕ) (at : ℕ → ℕ) (k p : ℕ) (c : List ℕ) → IsDisciplined ops n → k < n → p < length c → is_stored p (ops k) ≡ true
+    → slice_index (joint_cells ops at n c) p ≡ word_after p (take (at k) (ops k)) (slice_index c p)
+stored_cell ops n at k p c d lt inside s = joint_cell ops at n p c inside
+    ∙ joint_one p ops at k n (slice_index c p) lt (λ j y l ne. let ne' : k ≢ j = (λ e. ne (sym e)) in left_alone p (ops k) (ops j) (at j) y s (d k j lt l ne'))
+
+-- ---- a cell that no list stores
+
+added_word : (p : ℕ) (os : List Op) (i x : ℕ) → is_stored p os ≡ false → word_after p (take i os) (x % 2 ^ 64) ≡ (x + amounts p (take i os)) % 2 ^ 64
+added_word p os zero x s = ap (λ y. y % 2 ^ 64) (omega arith)
+added_word p [] (suc i) x s = ap (λ y. y % 2 ^ 64) (omega arith)
+added_word p (Load q ∷ os) (suc i) x s = loaded (p == q) (added_word p os i x s)
+  where
+    loaded : (b : Bool) → word_after p (take i os) (x % 2 ^ 64) ≡ (x + amounts p (take i os)) % 2 ^ 64 → word_after p (take i os) (if b then x % 2 ^ 64 else x % 2 ^ 64) ≡ (x + amounts p (take i os)) % 2 ^ 64
+    loaded true h = h
+    loaded false h = h
+added_word p (Store q v ∷ os) (suc i) x s =
+    let e : (if p == q then v else x % 2 ^ 64) ≡ x % 2 ^ 64 = rw (or_left (p == q) (is_stored p os) s) refl in
+    ap (word_after p (take i os)) e ∙ added_word p os i x (or_right (p == q) (is_stored p os) s)
+added_word p (Bump q a ∷ os) (suc i) x s =
+    let e : (if p == q then ring_add (x % 2 ^ 64) a else x % 2 ^ 64) ≡ x % 2 ^ 64 = rw (or_left (p == q) (is_stored p os) s) refl in
+    ap (word_after p (take i os)) e ∙ added_word p os i x (or_right (p == q) (is_stored p os) s)
+added_word p (Add q a ∷ os) (suc i) x s = one_added (p == q) (λ y. added_word p os i y s)
+  where
+    one_added : (b : Bool) → ((y : ℕ) → word_after p (take i os) (y % 2 ^ 64) ≡ (y + amounts p (take i os)) % 2 ^ 64)
+        → word_after p (take i os) (if b then ring_add (x % 2 ^ 64) a else x % 2 ^ 64) ≡ (x + ((if b then a else 0) + amounts p (take i os))) % 2 ^ 64
+    one_added true h = let m : ring_add (x % 2 ^ 64) a ≡ (x + a) % 2 ^ 64 = omega arith in ap (word_after p (take i os)) m ∙ (h (x + a) ∙ ap (λ y. y % 2 ^ 64) (omega arith))
+    one_added false h = h x ∙ ap (λ y. y % 2 ^ 64) (omega arith)
+
+added_joint : (p : ℕ) (ops : ℕ → List Op) (at : ℕ → ℕ) (n x : ℕ) → ((k : ℕ) → k < n → is_stored p (ops k) ≡ false) → joint_word p ops at n (x % 2 ^ 64) ≡ (x + joint_amounts p ops at n) % 2 ^ 64
+added_joint p ops at zero x h = ap (λ y. y % 2 ^ 64) (omega arith)
+added_joint p ops at (suc n) x h = ap (word_after p (take (at n) (ops n))) (added_joint p ops at n x (λ k l. h k (omega arith)))
+    ∙ (added_word p (ops n) (at n) (x + joint_amounts p ops at n) (h n (omega arith)) ∙ ap (λ y. y % 2 ^ 64) (omega arith))
+
+pub added_cell : (ops : ℕ → List Op) (n : ℕ) (at : ℕ → ℕ) (p : ℕ) (c : List ℕ) → p < length c → slice_index c p < 2 ^ 64 → ((k : ℕ) → k < n → is_stored p (ops k) ≡ false)
+    → slice_index (joint_cells ops at n c) p ≡ (slice_index c p + joint_amounts p ops at n) % 2 ^ 64
+added_cell ops n at p c inside small h =
+    let whole : slice_index c p ≡ slice_index c p % 2 ^ 64 = omega arith in
+    joint_cell ops at n p c inside ∙ (ap (joint_word p ops at n) whole ∙ added_joint p ops at n (slice_index c p) h)
+
+-- ---- races
 
 -- an operation that a list has, also where it is told by its index
 clear_at : (os : List Op) (u o : Op) (k : ℕ) → ClearAll os u → k < length os → slice_index_or os k o ≡ o → Clear o u

@@ -1,11 +1,11 @@
 -- The machine with holders reaches the joint states.
-use Rattle.std.proofs.Common.{◌≡◌, ◌≢◌, ℕ, zero, suc, ◌+◌, ◌<◌, ◌≤◌, ◌==◌, List, [], ◌∷◌, ◌++◌, length, take, drop, if◌then◌else◌, refl, sym, ap, ◌∙◌, subst, arith, Option, Some, None, eq-eqb, ne_eqb}
+use Rattle.std.proofs.Common.{◌≡◌, ◌≢◌, ℕ, zero, suc, ◌+◌, ◌<◌, ◌≤◌, List, [], ◌∷◌, ◌++◌, length, take, drop, refl, sym, ap, ◌∙◌, subst, arith, Option, Some, None, eq-eqb, ne_eqb}
 use mathlib.Core.Logic.{dite}
 use native.Mathlib.Decide.{ℕ_discrete}
 use Rattle.operations.specs.declared.op.Op.{Op}
-use Rattle.operations.specs.Ops.{acts, acts_all}
-use Rattle.operations.specs.Order.{joint_cells, positions_after, Machine, put, next, step, Follows}
-use Rattle.operations.specs.Holders.{Crew, Event, claims, makes, holder_after, crew_after, crew_after_all, AllMayHappen, crew_start, IsReached}
+use Rattle.operations.specs.Ops.{acts_all}
+use Rattle.operations.specs.Order.{joint_cells, put, next, Follows}
+use Rattle.operations.specs.Holders.{Crew, Event, claims, makes, crew_after, crew_after_all, AllMayHappen, crew_start, IsReached}
 use Rattle.operations.proofs.Orders.{went_here, went_else, drop_next, Ready, ready_follows, ready_next, made}
 
 put_here : (k x : ℕ) (f : ℕ → ℕ) → put k x f k ≡ x

@@ -1,5 +1,5 @@
 -- The machine whose lists have holders: a worker takes a list that nobody holds, or makes the next operation of a list that is held.
-use Rattle.std.specs.Prelude.{◌≡◌, ℕ, zero, ◌<◌, ◌==◌, if◌then◌else◌, List, [], ◌∷◌, length, Option, Some, None}
+use Rattle.std.specs.Prelude.{◌≡◌, ℕ, ◌<◌, ◌==◌, if◌then◌else◌, List, [], ◌∷◌, length, Option, Some, None}
 use Rattle.operations.specs.declared.op.Op.{Op}
 use Rattle.operations.specs.Order.{Machine, put, step, start}
 
@@ -43,3 +43,9 @@ pub record IsReached (ops : ℕ → List Op) (n : ℕ) (c shown : List ℕ) (hol
   pub cells : (crew_after_all ops events (crew_start c)).machine.cells ≡ shown
   pub positions : (k : ℕ) → k < n → (crew_after_all ops events (crew_start c)).machine.at k ≡ at k
   pub holders : (k : ℕ) → k < n → (crew_after_all ops events (crew_start c)).holder k ≡ holder k
+
+-- the events are of lists below n
+abbrev pub AllEventsBelow : ℕ → List Event → Type 0
+AllEventsBelow n [] = Unit {0}
+AllEventsBelow n (claims k w ∷ es) = (k < n) × AllEventsBelow n es
+AllEventsBelow n (makes k ∷ es) = (k < n) × AllEventsBelow n es

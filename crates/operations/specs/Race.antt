@@ -1,5 +1,5 @@
 -- Races among the operations that iterations have made.
-use Rattle.std.specs.Prelude.{◌≡◌, ℕ, ◌+◌, ◌-◌, ◌<◌, ◌≤◌, ◌⊎◌, false, List, ◌∷◌, length, take, Option, Some, None, Contains}
+use Rattle.std.specs.Prelude.{◌≡◌, ℕ, ◌+◌, ◌-◌, ◌<◌, ◌≤◌, ◌⊎◌, false, List, length, take, Option, Some, None, Contains}
 use Rattle.operations.specs.declared.op.Op.{Op}
 use Rattle.operations.specs.Ops.{cell_of, may_meet}
 use Rattle.operations.specs.Order.{chunk}
