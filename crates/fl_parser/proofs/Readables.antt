@@ -39,11 +39,12 @@ use Rattle.parsing.specs.Grammar.{Grammar, one, grouped, left_grouped}
 use Rattle.fl_parser.specs.declared.tree.Measured.{Measured}
 use Rattle.fl_parser.specs.declared.tree.Listed.{Listed}
 use Rattle.fl_parser.specs.declared.stmt.Counted.{Counted}
+use Rattle.fl_parser.specs.declared.unit.UnitHead.{UnitHead}
 use Rattle.fl_parser.specs.declared.stmt.TargetPlace.{TargetPlace}
 use Rattle.fl_ast.specs.declared.expr.Place.{Place}
 use Rattle.fl_parser.specs.Limits.{the_limits}
 use Rattle.fl_parser.specs.Terminals.{sum_op_by, product_op_by, pairing_by, single_by, exponent}
-use Rattle.fl_parser.specs.Trees.{kind_of, literal, scalar, place_at, negation, binary, power, no_exprs, one_more, element, call_of, may_stand_left, declared, assigned, no_stmts, program, scalar_target, element_target}
+use Rattle.fl_parser.specs.Trees.{kind_of, literal, scalar, place_at, negation, binary, power, no_exprs, one_more, element, call_of, may_stand_left, declared, assigned, no_stmts, head_of, program, scalar_target, element_target}
 use Rattle.fl_parser.specs.ExprGrammar as g
 use Rattle.fl_parser.specs.UnitGrammar as g2
 use Rattle.fl_parser.specs.DimGrammar as g3
@@ -566,18 +567,27 @@ record Spelled_out (p : Program) (k : ℕ) : Type 0 where
   decls : Declares_well p.decls
   body : (c : Counted) × (c.stmts ≡ p.body) × Counts_well c k
 
+record HeadWell (h : UnitHead) : Type 0 where
+  name : is_name h.name ≡ true
+  args : list_all is_variable h.args ≡ true
+
+head_well : (m : ℕ) → Holds m g2.unit_head (λ h k. HeadWell h)
+unfolding g2.unit_head
+head_well m = holds_bind m (one (marked s.Subroutine)) _ (λ _ a. m ≤ a) (λ h k. HeadWell h) (holds_any m _)
+    (λ line a _. holds_bind a (one word) _ (λ x k. is_name x.name ≡ true) (λ h k. HeadWell h) (holds_word a)
+    (λ x b named. holds_bind b g2.args _ AreNames (λ h k. HeadWell h) (args_named b)
+    (λ found c are_named. holds_bind c (one (marked s.LineEnd)) _ (λ _ k. c ≤ k) (λ h k. HeadWell h) (holds_any c _)
+    (λ _ d _. holds_bind d g2.implicit _ (λ _ k. d ≤ k) (λ h k. HeadWell h) (holds_any d _)
+    (λ _ e _. holds_gives e (head_of line x found) (λ h k. HeadWell h) (record { name = named; args = are_named }))))))
+
 unit_well : Holds 0 (g2.unit the_limits) Spelled_out
 unfolding g2.unit
-unit_well = holds_bind 0 (one (marked s.Subroutine)) _ (λ _ a. 0 ≤ a) Spelled_out (holds_any 0 _)
-    (λ line a _. holds_bind a (one word) _ (λ x k. is_name x.name ≡ true) Spelled_out (holds_word a)
-    (λ x b named. holds_bind b g2.args _ AreNames Spelled_out (args_named b)
-    (λ found c are_named. holds_bind c (one (marked s.LineEnd)) _ (λ _ k. c ≤ k) Spelled_out (holds_any c _)
-    (λ _ d _. holds_bind d g2.implicit _ (λ _ k. d ≤ k) Spelled_out (holds_any d _)
-    (λ _ e _. holds_bind e (g2.decls the_limits) _ (λ ds k. Declares_well ds) Spelled_out (decls_well e)
+unit_well = holds_bind 0 g2.unit_head _ (λ h k. HeadWell h) Spelled_out (head_well 0)
+    (λ h e H. holds_bind e (g2.decls the_limits) _ (λ ds k. Declares_well ds) Spelled_out (decls_well e)
     (λ ds f D. holds_bind f (g2.stmts the_limits) _ Counts_well Spelled_out (stmts_well f)
-    (λ body n C. holds_bind n (g2.end_unit x.name) _ (λ _ k. n ≤ k) Spelled_out (holds_any n _)
-    (λ _ k after. holds_gives k (program line x found ds body) Spelled_out
-    (record { name = named; args = are_named; decls = D; body = (body, refl, longer body n k after C) })))))))))
+    (λ body n C. holds_bind n (g2.end_unit h.name) _ (λ _ k. n ≤ k) Spelled_out (holds_any n _)
+    (λ _ k after. holds_gives k (program h ds body) Spelled_out
+    (record { name = H.name; args = H.args; decls = D; body = (body, refl, longer body n k after C) })))))
 
 readable_of : (p : Program) (c : Counted) (k : ℕ) → Spelled_out p k → c.stmts ≡ p.body → Counts_well c k → k < 2 ^ 32 → IsReadable p
 readable_of p c k P e C few = record {

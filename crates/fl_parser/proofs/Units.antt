@@ -15,9 +15,10 @@ use Rattle.fl_ast.specs.declared.kind.Intent.{Intent}
 use Rattle.fl_ast.specs.declared.kind.Intent.TheVariants.{Unsaid, ReadOnly, WriteOnly, Both}
 use Rattle.fl_ast.specs.declared.decl.Decl.{Decl}
 use Rattle.fl_parser.specs.declared.stmt.Counted.{Counted}
+use Rattle.fl_parser.specs.declared.unit.UnitHead.{UnitHead}
 use Rattle.fl_parser.specs.Terminals.{kind_by}
 use Rattle.fl_parser.specs.Limits.{Limits}
-use Rattle.fl_parser.specs.Trees.{declared, assigned, no_stmts, program, scalar_target, element_target}
+use Rattle.fl_parser.specs.Trees.{declared, assigned, no_stmts, head_of, program, scalar_target, element_target}
 use Rattle.fl_parser.specs.Wide.{Widens}
 use Rattle.fl_parser.specs.UnitGrammar as g
 use Rattle.fl_parser.specs.UnitReading as p
@@ -347,25 +348,29 @@ bodies a = cond (ends a) true (names a)
 abbrev parts : Symbol → Bool
 parts a = cond (bodies a) true (same s.Integer a)
 
+unit_head_exact : (l : Freed) → Exact l g.unit_head (is s.Implicit) p.unit_head p.unit_head
+unfolding g.unit_head p.unit_head
+unit_head_exact l =
+    mark_then s.Subroutine _ _ _ (λ line. seq word_exact (λ x. seq (args_exact l) (λ found. mark_then s.LineEnd _ _ _ (λ _. mapped (implicit_exact l) (λ _. head_of line x found)))
+    (λ found. meets (same s.LineEnd) (same s.Open) (is s.Implicit) _ (begins_seq _ (begins_mark s.LineEnd)) refl refl)) (λ x. meets_never (is s.Implicit) _))
+
 -- A unit is read exactly.
 pub unit_exact : (l : Freed) (limits wide : Limits) → Widens l limits wide → Exact l (g.unit limits) never (p.unit limits) (p.unit wide)
 unfolding g.unit p.unit
 unit_exact l limits wide W =
-    mark_then s.Subroutine _ _ _ (λ line. seq word_exact (λ x. seq (args_exact l) (λ found. mark_then s.LineEnd _ _ _ (λ _. seq (implicit_exact l)
-    (λ _. seq (decls_exact l limits wide W)
+    seq (unit_head_exact l)
+    (λ h. seq (decls_exact l limits wide W)
     (λ ds. seq (stmts_exact l limits wide W)
-    (λ body. seq (end_unit_exact l x.name) (λ _. pure_exact (program line x found ds body)) (λ _. meets_never never _))
-    (λ body. meets ends names never _ (begins_seq _ (end_unit_begins x.name)) refl refl))
-    (λ ds. meets bodies (same s.Integer) never _ (body_begins x line found ds) refl refl))
-    (λ _. meets parts (same s.Implicit) never _ (parts_begin x line found) refl refl)))
-    (λ found. meets (same s.LineEnd) (same s.Open) never _ (begins_seq _ (begins_mark s.LineEnd)) refl refl)) (λ x. meets_never never _))
+    (λ body. seq (end_unit_exact l h.name) (λ _. pure_exact (program h ds body)) (λ _. meets_never never _))
+    (λ body. meets ends names never _ (begins_seq _ (end_unit_begins h.name)) refl refl))
+    (λ ds. meets bodies (same s.Integer) never _ (body_begins h ds) refl refl))
+    (λ h. meets parts (same s.Implicit) never _ (parts_begin h) refl refl)
   where
-    body_begins : (x : Word) (line : ℕ) (found : List (List ℕ)) (ds : List Decl) → Begins (g.stmts limits ⨟ (λ body. g.end_unit x.name ⨟ (λ _. gives (program line x found ds body)))) (on bodies)
-    body_begins x line found ds = begins_opens (g.stmts limits) _ (on bodies) (opens_in names bodies _ (stmts_open l limits wide W) (wider names bodies refl refl))
-        (λ body. begins_in ends bodies _ (begins_seq _ (end_unit_begins x.name)) refl refl)
+    body_begins : (h : UnitHead) (ds : List Decl) → Begins (g.stmts limits ⨟ (λ body. g.end_unit h.name ⨟ (λ _. gives (program h ds body)))) (on bodies)
+    body_begins h ds = begins_opens (g.stmts limits) _ (on bodies) (opens_in names bodies _ (stmts_open l limits wide W) (wider names bodies refl refl))
+        (λ body. begins_in ends bodies _ (begins_seq _ (end_unit_begins h.name)) refl refl)
 
-    parts_begin : (x : Word) (line : ℕ) (found : List (List ℕ)) →
-        Begins (g.decls limits ⨟ (λ ds. g.stmts limits ⨟ (λ body. g.end_unit x.name ⨟ (λ _. gives (program line x found ds body))))) (on parts)
-    parts_begin x line found = begins_opens (g.decls limits) _ (on parts) (opens_in (same s.Integer) parts _ (decls_open l limits wide W) (wider (same s.Integer) parts refl refl))
+    parts_begin : (h : UnitHead) → Begins (g.decls limits ⨟ (λ ds. g.stmts limits ⨟ (λ body. g.end_unit h.name ⨟ (λ _. gives (program h ds body))))) (on parts)
+    parts_begin h = begins_opens (g.decls limits) _ (on parts) (opens_in (same s.Integer) parts _ (decls_open l limits wide W) (wider (same s.Integer) parts refl refl))
         (λ ds. begins_in bodies parts _ (begins_opens (g.stmts limits) _ (on bodies) (opens_in names bodies _ (stmts_open l limits wide W) (wider names bodies refl refl))
-        (λ body. begins_in ends bodies _ (begins_seq _ (end_unit_begins x.name)) refl refl)) refl refl)
+        (λ body. begins_in ends bodies _ (begins_seq _ (end_unit_begins h.name)) refl refl)) refl refl)

@@ -24,6 +24,7 @@ use Rattle.fl_parser.specs.declared.tree.Measured.{Measured}
 use Rattle.fl_parser.specs.declared.tree.Listed.{Listed}
 use Rattle.fl_parser.specs.declared.stmt.Counted.{Counted}
 use Rattle.fl_parser.specs.declared.stmt.TargetPlace.{TargetPlace}
+use Rattle.fl_parser.specs.declared.unit.UnitHead.{UnitHead}
 
 -- ---- expressions with their depths
 
@@ -100,5 +101,8 @@ element_target x l = record { line = x.line; place = place_at x.name l.exprs }
 abbrev pub assigned : Counted → TargetPlace → Measured → Counted
 assigned c t e = record { stmts = c.stmts ++ Assign t.line false t.place e.expr ∷ []; count = c.count + 1 }
 
-abbrev pub program : ℕ → Word → List (List ℕ) → List Decl → Counted → Program
-program line x args ds body = record { line = line; name = x.name; args = args; decls = ds; body = body.stmts }
+abbrev pub head_of : ℕ → Word → List (List ℕ) → UnitHead
+head_of line x args = record { line = line; name = x.name; args = args }
+
+abbrev pub program : UnitHead → List Decl → Counted → Program
+program head ds body = record { line = head.line; name = head.name; args = head.args; decls = ds; body = body.stmts }

@@ -14,9 +14,10 @@ use Rattle.parsing.specs.declared.cursor.Word.{Word}
 use Rattle.fl_parser.specs.declared.tree.Measured.{Measured}
 use Rattle.fl_parser.specs.declared.stmt.Counted.{Counted}
 use Rattle.fl_parser.specs.declared.stmt.TargetPlace.{TargetPlace}
+use Rattle.fl_parser.specs.declared.unit.UnitHead.{UnitHead}
 use Rattle.fl_parser.specs.Terminals.{kind_number}
 use Rattle.fl_parser.specs.Limits.{Limits}
-use Rattle.fl_parser.specs.Trees.{declared, scalar_target, element_target, assigned, no_stmts, program}
+use Rattle.fl_parser.specs.Trees.{declared, scalar_target, element_target, assigned, no_stmts, head_of, program}
 use Rattle.fl_parser.specs.DimGrammar.{shape}
 use Rattle.fl_parser.specs.ExprGrammar.{expr, below, subscripts}
 
@@ -235,14 +236,20 @@ end_unit bytes =
       closing bytes)
     or end_word bytes
 
-unfoldable pub unit : Limits → Grammar Program
-unit limits = do
+-- "subroutine" word [ "(" [ name {"," name} ] ")" ] eol [ "implicit" "none" eol ]
+unfoldable pub unit_head : Grammar UnitHead
+unit_head = do
   line ← one (marked s.Subroutine)
   x ← one word
   found ← args
   eol ← one (marked s.LineEnd)
   said ← implicit
+  gives (head_of line x found)
+
+unfoldable pub unit : Limits → Grammar Program
+unit limits = do
+  head ← unit_head
   ds ← decls limits
   body ← stmts limits
-  end ← end_unit x.name
-  gives (program line x found ds body)
+  end ← end_unit head.name
+  gives (program head ds body)

@@ -15,9 +15,10 @@ use Rattle.parsing.specs.declared.cursor.Word.{Word}
 use Rattle.fl_parser.specs.declared.tree.Measured.{Measured}
 use Rattle.fl_parser.specs.declared.stmt.Counted.{Counted}
 use Rattle.fl_parser.specs.declared.stmt.TargetPlace.{TargetPlace}
+use Rattle.fl_parser.specs.declared.unit.UnitHead.{UnitHead}
 use Rattle.fl_parser.specs.Terminals.{kind_number}
 use Rattle.fl_parser.specs.Limits.{Limits}
-use Rattle.fl_parser.specs.Trees.{declared, scalar_target, element_target, assigned, no_stmts, program}
+use Rattle.fl_parser.specs.Trees.{declared, scalar_target, element_target, assigned, no_stmts, head_of, program}
 use Rattle.fl_parser.specs.DimReading.{shape}
 use Rattle.fl_parser.specs.ExprReading.{expr, below, subscripts}
 
@@ -216,14 +217,19 @@ end_unit bytes = choose (is s.EndSubroutine)
       closing bytes)
     (end_word bytes)
 
-unfoldable pub unit : Limits → Parser Program
-unit limits = do
+unfoldable pub unit_head : Parser UnitHead
+unit_head = do
   line ← token (marked s.Subroutine)
   x ← token word
   found ← args
   eol ← token (marked s.LineEnd)
   said ← implicit
+  pure (head_of line x found)
+
+unfoldable pub unit : Limits → Parser Program
+unit limits = do
+  head ← unit_head
   ds ← decls limits
   body ← stmts limits
-  end ← end_unit x.name
-  pure (program line x found ds body)
+  end ← end_unit head.name
+  pure (program head ds body)

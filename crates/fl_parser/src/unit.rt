@@ -13,6 +13,14 @@ use fl_base::{Items, Memory, Name};
 use parsing::{Cursor, Failure, Symbol};
 use std::alloc::Global;
 
+/// The first line of a unit.
+#[derive(Drop)]
+pub struct UnitHead {
+    pub line: u32,
+    pub name: Name,
+    pub args: Items<Name>,
+}
+
 fn with(mut found: Items<Name>, name: Name) -> Result<Items<Name>, Memory>
     ensures { IfOk result (λ x. x ≡ found ++ name ∷ []) }
 {
@@ -133,24 +141,32 @@ fn end_unit(tokens: &mut Cursor<'_>, name: &Name) -> Result<u32, Failure>
     end_word(tokens, name)
 }
 
-/// A unit.
-#[tactic(auto, unfolding(crate::specs::UnitReading::unit))]
-pub fn unit(alloc: Global, tokens: &mut Cursor<'_>, limits: Limits) -> Result<Program, Failure>
-    requires { limits.depth < 2 ^ 32 }
-    ensures { Reads (spec.unit (limits_of limits) tokens.old) result tokens.new }
+#[tactic(auto, unfolding(crate::specs::UnitReading::unit_head))]
+fn unit_head(alloc: Global, tokens: &mut Cursor<'_>) -> Result<UnitHead, Failure>
+    ensures { Reads (spec.unit_head tokens.old) result tokens.new }
 {
     let line = tokens.mark(Symbol::Subroutine)?;
     let name = tokens.word(alloc)?.name;
     let args = args(alloc, tokens)?;
     let _eol = tokens.mark(Symbol::LineEnd)?;
     implicit(tokens)?;
+    Ok(UnitHead { line, name, args })
+}
+
+/// A unit.
+#[tactic(auto, unfolding(crate::specs::UnitReading::unit))]
+pub fn unit(alloc: Global, tokens: &mut Cursor<'_>, limits: Limits) -> Result<Program, Failure>
+    requires { limits.depth < 2 ^ 32 }
+    ensures { Reads (spec.unit (limits_of limits) tokens.old) result tokens.new }
+{
+    let head = unit_head(alloc, tokens)?;
     let decls = decls(alloc, tokens, limits)?;
     let body = stmts(alloc, tokens, limits)?.stmts;
-    let _end = end_unit(tokens, &name)?;
+    let _end = end_unit(tokens, &head.name)?;
     Ok(Program {
-        line,
-        name,
-        args,
+        line: head.line,
+        name: head.name,
+        args: head.args,
         decls,
         body,
     })
