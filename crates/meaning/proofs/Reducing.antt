@@ -3,7 +3,7 @@ use Rattle.std.specs.Prelude.{◌≡◌, ℕ, zero, suc, ◌+◌, ◌*◌, ◌^�
 use Rattle.std.specs.Int.{w8, w16, w64, cast_signed, cast_unsigned}
 use Rattle.std.proofs.Common.{ap, sym, ◌∙◌, arith}
 use Rattle.ring_core.specs.declared.ring.Width.{Width}
-use Rattle.ring_core.specs.declared.ring.Width.TheVariants.{W8, W16, W64}
+use Rattle.ring_core.specs.declared.ring.Width.TheVariants.{Bits8, Bits16, Bits64}
 use Rattle.ring_core.specs.Ring.{ring_add, ring_sub, ring_mul, ring_neg, modulus, signed_at}
 use Rattle.ring_core.proofs.Modular.{modular}
 use Rattle.fl_ast.specs.declared.kind.BinOp.{BinOp}
@@ -20,19 +20,19 @@ pub record Narrow (w : Width) : Type 0 where
   pub divides : (x : ℕ) → (x % 2 ^ 64) % modulus w ≡ x % modulus w
   pub signs : (a b : ℕ) → a % modulus w ≡ b % modulus w → signed_at w a ≡ signed_at w b
 
-narrow_8 : Narrow W8
+narrow_8 : Narrow Bits8
 narrow_8 = record { divides = λ x. omega arith; signs = λ a b e. ap (cast_signed w8) e }
 
-narrow_16 : Narrow W16
+narrow_16 : Narrow Bits16
 narrow_16 = record { divides = λ x. omega arith; signs = λ a b e. ap (cast_signed w16) e }
 
-narrow_64 : Narrow W64
+narrow_64 : Narrow Bits64
 narrow_64 = record { divides = λ x. omega arith; signs = λ a b e. ap (cast_signed w64) e }
 
 pub narrow : (w : Width) → Narrow w
-narrow W8 = narrow_8
-narrow W16 = narrow_16
-narrow W64 = narrow_64
+narrow Bits8 = narrow_8
+narrow Bits16 = narrow_16
+narrow Bits64 = narrow_64
 
 abbrev pub Same : Width → ℕ → ℕ → Type 0
 Same w a b = a % modulus w ≡ b % modulus w
@@ -204,7 +204,7 @@ widths_respected = λ w. respect w (narrow w)
 small_word : (n : ℕ) → n < 2 ^ 64 → n % 18446744073709551616 ≡ n
 small_word n h = omega arith
 
-cell_residue : (o : Option Value) → IsWordCell o → reduced_cell W64 o ≡ o
+cell_residue : (o : Option Value) → IsWordCell o → reduced_cell Bits64 o ≡ o
 cell_residue None h = refl
 cell_residue (Some (Index z)) h = refl
 cell_residue (Some (Ring d)) h = ap (λ (v : ℕ). Some (Ring (record { value = v; tangent = d.tangent % 18446744073709551616 }))) (small_word d.value h.0)
@@ -212,4 +212,4 @@ cell_residue (Some (Ring d)) h = ap (λ (v : ℕ). Some (Ring (record { value = 
 
 pub words_are_residues : WordsAreResidues
 words_are_residues [] h = refl
-words_are_residues (c ∷ cs) h = ap (λ (d : Option Value). d ∷ reduced_cells W64 cs) (cell_residue c h.0) ∙ ap (λ (ds : Cells). c ∷ ds) (words_are_residues cs h.1)
+words_are_residues (c ∷ cs) h = ap (λ (d : Option Value). d ∷ reduced_cells Bits64 cs) (cell_residue c h.0) ∙ ap (λ (ds : Cells). c ∷ ds) (words_are_residues cs h.1)

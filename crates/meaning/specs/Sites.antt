@@ -2,7 +2,7 @@
 use Rattle.std.specs.Prelude.{ℕ, ℤ, Bool, false, if◌then◌else◌, nat_eq, List, [], ◌∷◌, map, Option, Some, None}
 use Rattle.std.specs.Int.{w64, cast_unsigned}
 use Rattle.ring_core.specs.declared.ring.Width.{Width}
-use Rattle.ring_core.specs.declared.ring.Width.TheVariants.{W8, W16, W64}
+use Rattle.ring_core.specs.declared.ring.Width.TheVariants.{Bits8, Bits16, Bits64}
 use Rattle.fl_ast.specs.declared.kind.Kind.{Kind}
 use Rattle.fl_ast.specs.declared.kind.Kind.TheVariants as kind
 use Rattle.fl_ast.specs.declared.decl.Decl.{Decl}
@@ -29,11 +29,11 @@ with_tangent t (Some (Index z)) = Some (Index z)
 with_tangent t (Some (Ring d)) = Some (Ring (record { value = d.value; tangent = t }))
 
 abbrev pub width_of : ℕ → Width
-width_of bytes = if nat_eq bytes 1 then W8 else if nat_eq bytes 2 then W16 else W64
+width_of bytes = if nat_eq bytes 1 then Bits8 else if nat_eq bytes 2 then Bits16 else Bits64
 
 -- the width of data, by the first name of the ring kind
 abbrev pub data_width : List Decl → Width
-data_width [] = W64
+data_width [] = Bits64
 data_width (d ∷ ds) = if is_ring_kind d.kind then width_of d.bytes else data_width ds
 
 -- where a run stands: the keys of all cells, the declared names, those of the ring kind, the width of data, and those names whose old values are pushed;

@@ -2,7 +2,7 @@
 use Rattle.std.specs.Prelude.{◌≡◌, ℕ, ◌%◌, ◌<◌, ◌^◌, [], ◌∷◌, Option, Some, None, Result, Ok, Err}
 use Rattle.ring_core.specs.declared.ring.Width.{Width}
 use Rattle.ring_core.specs.Ring.{modulus}
-use Rattle.ring_core.specs.declared.ring.Width.TheVariants.{W64}
+use Rattle.ring_core.specs.declared.ring.Width.TheVariants.{Bits64}
 use Rattle.fl_ast.specs.declared.kind.BinOp.{BinOp}
 use Rattle.fl_ast.specs.declared.kind.RelOp.{RelOp}
 use Rattle.meaning.specs.declared.value.Dual.{Dual}
@@ -64,7 +64,7 @@ AreWordCells (c ∷ cs) = IsWordCell c × AreWordCells cs
 
 -- with 64 bits nothing is lost
 abbrev pub WordsAreResidues : Type 0
-WordsAreResidues = (cells : Cells) → AreWordCells cells → reduced_cells W64 cells ≡ cells
+WordsAreResidues = (cells : Cells) → AreWordCells cells → reduced_cells Bits64 cells ≡ cells
 
 -- ---- whole runs
 

@@ -86,9 +86,9 @@ fn width_of(bytes: u32) -> Width
     ensures { result ≡ width_of_lem bytes }
 {
     match bytes {
-        1 => Width::W8,
-        2 => Width::W16,
-        _ => Width::W64,
+        1 => Width::Bits8,
+        2 => Width::Bits16,
+        _ => Width::Bits64,
     }
 }
 
@@ -100,7 +100,7 @@ fn data_width(decls: &[Decl]) -> Width
             return width_of(decl.bytes);
         }
     }
-    Width::W64
+    Width::Bits64
 }
 
 fn is_ring(decls: &[Decl], name: &Name) -> bool

@@ -12,7 +12,7 @@ use Rattle.fl_ast.specs.declared.kind.Fun.TheVariants.{Max, Min, Abs, Mod}
 use Rattle.fl_ast.specs.Tree.{Expression, literal, get, minus, binary, power, call, Expressions, no_expressions, expression}
 use Rattle.ring_core.specs.Ring.{signed_at}
 use Rattle.ring_core.specs.declared.ring.Width.{Width}
-use Rattle.ring_core.specs.declared.ring.Width.TheVariants.{W8, W16, W64}
+use Rattle.ring_core.specs.declared.ring.Width.TheVariants.{Bits8, Bits16, Bits64}
 use Rattle.ring_core.specs.declared.index.IndexTrap.{IndexTrap}
 use Rattle.ring_core.specs.Index.{exact_index, index_div, index_rem}
 use Rattle.meaning.specs.declared.value.Dual.{Dual}
@@ -220,9 +220,9 @@ smaller_is w (Index a) (Ring b) h = cc
 smaller_is w (Ring a) (Index b) h = cc
 
 zero_rank : (w : Width) → signed_at w 0 ≡ pos 0
-zero_rank W8 = refl
-zero_rank W16 = refl
-zero_rank W64 = refl
+zero_rank Bits8 = refl
+zero_rank Bits16 = refl
+zero_rank Bits64 = refl
 
 pub negative_is : (w : Width) (d z : Dual) → z.value ≡ 0 → relates w rel.Lt (Ring d) (Ring z) ≡ int_lt (rank w (Ring d)) (pos 0)
 negative_is w d z e = ap (λ (n : ℕ). int_lt (signed_at w d.value) (signed_at w n)) e ∙ ap (λ (r : ℤ). int_lt (signed_at w d.value) r) (zero_rank w)
