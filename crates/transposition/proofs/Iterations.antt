@@ -27,7 +27,7 @@ use Rattle.transposition.proofs.Heads.{Settings, settings, set_names, AllIndex, 
 use Rattle.meaning.specs.Adjoints.{tangent_of}
 use Rattle.transposition.specs.Tapes.{Tape, Tapes, empty, tape_after, tape_at}
 use Rattle.transposition.specs.Worlds.{World, Local, name_at, in_iteration}
-use Rattle.transposition.specs.Back.{loop_variables, with_variable_words, pop_privates, clear_privates, iteration_local, iteration_tree, back_all}
+use Rattle.transposition.specs.Back.{loop_variables, with_variable_words, after_private_pops, with_clear_privates, iteration_local, iteration_tree, back_all}
 use Rattle.transposition.specs.Law.{Use, local, flat, Like, tangents, Fit, HasKind, Within, CoverAll, Ends, Undoes, AreWords}
 use Rattle.transposition.specs.Sound.{AllOwn, privates_of, SoundRounds, writes_in}
 use Rattle.transposition.proofs.Split.{less, not_less}
@@ -274,7 +274,7 @@ iteration_step w u inner number directive var tree sound heads tapes m k s s2 va
     cl = cleared w names (tape_after body-log empty) re.vs1 bs sound.privates
 
     local-is : iteration_local w directive var tree heads tapes m k ≡ local n (tape_after body-log empty) re.vs1 cl.bs1
-    local-is = ap (λ (x : Local). clear_privates w names (pop_privates w tree names x)) set-is ∙ (ap (clear_privates w names) re.out ∙ cl.out)
+    local-is = ap (λ (x : Local). with_clear_privates w names (after_private_pops w tree names x)) set-is ∙ (ap (with_clear_privates w names) re.out ∙ cl.out)
 
     wide2 : length re.vs1 ≡ length w.site.keys
     wide2 = re.long ∙ (va.long ∙ wide)

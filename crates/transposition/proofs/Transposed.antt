@@ -22,7 +22,7 @@ use Rattle.transposition.specs.Tapes.{empty, tape_after}
 use Rattle.transposition.specs.Worlds.{World, Local, name_at}
 use Rattle.transposition.specs.Back.{back_all}
 use Rattle.transposition.specs.Law.{Use, flat, local, Like, Fit, tangents}
-use Rattle.transposition.specs.Answer.{swept, ReverseIsTransposed}
+use Rattle.transposition.specs.Answer.{reverse_run, ReverseIsTransposed}
 use Rattle.transposition.proofs.Places.{content_later, tangent_here}
 use Rattle.transposition.proofs.Whole.{kept_all}
 use Rattle.transposition.proofs.Whole.{undone_all}
@@ -138,7 +138,7 @@ answered w u xs s s2 vs seed j d sound calm fit h like wide long small ring aliv
     let kept = kept_all xs w u sj t.s3 fit sound t.out in
     let like3 = like_along u w.site.keys vs s2 t.s3 t.same like in
     let e = undone_all xs w u (run_all xs w.site sj).log sj t.s3 empty fit sound calm (record { touches = λ k p i. i; differentiated = λ p i. i }) t.out vs seed like3 wide long small in
-    let same-tree : play (back_all xs w (local w.shared (tape_after (run_all xs w.site sj).log empty) vs seed)) (flat w.shared vs seed) ≡ swept w xs s vs seed =
+    let same-tree : play (back_all xs w (local w.shared (tape_after (run_all xs w.site sj).log empty) vs seed)) (flat w.shared vs seed) ≡ reverse_run w xs s vs seed =
     ap (λ (l : Log). play (back_all xs w (local w.shared (tape_after l empty) vs seed)) (flat w.shared vs seed)) (sym unseen.0) in
     let unit-pair : pair e.bs2 (tangents u w.site.keys sj) ≡ slice_index e.bs2 j =
     pair_unit (λ p. u.live (name_at w.site.keys p)) 0 j e.bs2 s d ring (ap (λ (m : ℕ). u.live (name_at w.site.keys m)) (omega arith) ∙ alive) (e.long ∙ (sym fit.long ∙ long_along (unit j) s)) in

@@ -17,14 +17,14 @@ use Rattle.transposition.specs.Calms.{IsCalmAll}
 use Rattle.transposition.specs.Sound.{SoundAll}
 
 -- the reverse part on what the forward part left, and a seed
-abbrev pub swept : World → Statements → Cells → (vs seed : List ℕ) → Played Local
-swept w xs s vs seed = play (back_all xs w (local w.shared (tape_after (run_all xs w.site s).log empty) vs seed)) (flat w.shared vs seed)
+abbrev pub reverse_run : World → Statements → Cells → (vs seed : List ℕ) → Played Local
+reverse_run w xs s vs seed = play (back_all xs w (local w.shared (tape_after (run_all xs w.site s).log empty) vs seed)) (flat w.shared vs seed)
 
 pub record Answer (w : World) (u : Use) (xs : Statements) (s : Cells) (vs seed : List ℕ) (j : ℕ) : Type 0 where
   pub vs2 : List ℕ
   pub bs2 : List ℕ
-  pub out : (swept w xs s vs seed).out ≡ local w.shared empty vs2 bs2
-  pub cells : (swept w xs s vs seed).cells ≡ flat w.shared vs2 bs2
+  pub out : (reverse_run w xs s vs seed).out ≡ local w.shared empty vs2 bs2
+  pub cells : (reverse_run w xs s vs seed).cells ≡ flat w.shared vs2 bs2
   pub adjoint : Same (slice_index bs2 j) (adjoint_at (run_all xs w.site) s seed j)
   pub values : Like u w.site.keys vs2 s
 
