@@ -1,8 +1,8 @@
 -- The adjoint that the reverse part leaves at a place is the seed-weighted sum of the tangents of the unit direction.
-use Rattle.std.proofs.Common.{◌≡◌, ℕ, zero, suc, ◌+◌, ◌*◌, List, [], ◌∷◌, refl, ap, sym, ◌∙◌, subst, arith, length, map, Bool, true, false, cond, Option, Some, None, Result, Ok, Err}
+use Rattle.std.proofs.Common.{◌≡◌, ◌^◌, ◌<◌, ℕ, zero, suc, ◌+◌, ◌*◌, List, [], ◌∷◌, refl, ap, sym, ◌∙◌, subst, arith, length, map, Bool, true, false, cond, Option, Some, None, Result, Ok, Err}
 use Rattle.std.specs.Prelude.{slice_index}
 use Rattle.ring_core.specs.Ring.{ring_mul}
-use Rattle.pairing.specs.Ring.{Same}
+use Rattle.pairing.specs.Ring.{big, Same}
 use Rattle.pairing.specs.Pair.{pair, live}
 use Rattle.pairing.proofs.Sames.{of_equal, same_sum, same_product, strip_add, strip_mul}
 use Rattle.operations.specs.Tree.{Played, play}
@@ -14,7 +14,7 @@ use Rattle.meaning.specs.Logs.{Log}
 use Rattle.meaning.specs.Sites.{Key, Cells, word_of}
 use Rattle.meaning.specs.Expressions.{content}
 use Rattle.meaning.specs.Statements.{run_all}
-use Rattle.meaning.specs.Adjoints.{cells_along, unit, tangent_of, pairing_of, pairing_after}
+use Rattle.meaning.specs.Adjoints.{cells_along, unit, tangent_of, pairing_of, pairing_after, adjoint_at}
 use Rattle.meaning.specs.Sites.{with_tangent}
 use Rattle.meaning.specs.Laws.{values_out}
 use Rattle.meaning.proofs.LawProofs.{unseen as tangents_are_unseen}
@@ -23,6 +23,8 @@ use Rattle.transposition.specs.Worlds.{World, Local, name_at}
 use Rattle.transposition.specs.Back.{back_all}
 use Rattle.transposition.specs.Law.{Use, flat, local, Like, Fit, tangents}
 use Rattle.transposition.specs.Answer.{reverse_run, ReverseIsTransposed}
+use Rattle.transposition.proofs.Words.{zero_word, sum_word}
+use Rattle.transposition.proofs.Split.{adjoint_cell}
 use Rattle.transposition.proofs.Places.{content_later, tangent_here}
 use Rattle.transposition.proofs.Whole.{kept_all}
 use Rattle.transposition.proofs.Whole.{undone_all}
@@ -130,6 +132,19 @@ long_along ts [] = refl
 long_along [] (c ∷ s) = ap suc (long_along [] s)
 long_along (t ∷ ts) (c ∷ s) = ap suc (long_along ts s)
 
+pairing_word : (ws : List ℕ) (s : Cells) → pairing_of ws s < 2 ^ 64
+pairing_word [] s = zero_word
+pairing_word (w ∷ ws) [] = zero_word
+pairing_word (w ∷ ws) (c ∷ s) = sum_word (ring_mul w (tangent_of c)) (pairing_of ws s)
+
+adjoint_word : (seed : List ℕ) (r : Result Cells TrapAt) → pairing_after seed r < 2 ^ 64
+adjoint_word seed (Ok s) = pairing_word seed s
+adjoint_word seed (Err t) = zero_word
+
+exact : (a b : ℕ) → a < 2 ^ 64 → b < 2 ^ 64 → Same a b → a ≡ b
+unfolding big
+exact a b h k e = omega arith
+
 pub answered : ReverseIsTransposed
 answered w u xs s s2 vs seed j d sound calm fit h like wide long small ring alive dead =
     let sj = cells_along (unit j) s in
@@ -144,12 +159,20 @@ answered w u xs s s2 vs seed j d sound calm fit h like wide long small ring aliv
     pair_unit (λ p. u.live (name_at w.site.keys p)) 0 j e.bs2 s d ring (ap (λ (m : ℕ). u.live (name_at w.site.keys m)) (omega arith) ∙ alive) (e.long ∙ (sym fit.long ∙ long_along (unit j) s)) in
     let seen : Same (pair seed (tangents u w.site.keys t.s3)) (pair seed (map tangent_of t.s3)) =
     pair_live (λ p. u.live (name_at w.site.keys p)) 0 seed (map tangent_of t.s3) (λ p o. unmet w u t.s3 seed p kept.fit dead (ap (λ (m : ℕ). u.live (name_at w.site.keys m)) (omega arith) ∙ o)) in
+    let the-adjoint : slice_index e.bs2 j ≡ adjoint_at (run_all xs w.site) s seed j =
+    exact (slice_index e.bs2 j) (adjoint_at (run_all xs w.site) s seed j) (e.words j) (adjoint_word seed (run_all xs w.site sj).out)
+      (of_equal _ _ (sym unit-pair) ∙ (e.pairs ∙ (seen ∙ (sym (paired_is seed t.s3) ∙ of_equal _ _ (ap (pairing_after seed) (sym t.out)))))) in
     record {
       vs2 = e.vs2;
       bs2 = e.bs2;
       out = ap (λ (r : Played Local). r.out) (sym same-tree) ∙ e.out;
       cells = ap (λ (r : Played Local). r.cells) (sym same-tree) ∙ e.cells;
-      adjoint = of_equal _ _ (sym unit-pair) ∙ (e.pairs ∙ (seen ∙ (sym (paired_is seed t.s3) ∙ of_equal _ _ (ap (pairing_after seed) (sym t.out)))));
+      wide = e.wide;
+      long = e.long;
+      words = e.words;
+      adjoint = the-adjoint;
+      cell = λ i. ap (λ (r : Played Local). slice_index r.cells (w.shared + j)) (sym same-tree) ∙ (ap (λ (c : List ℕ). slice_index c (w.shared + j)) e.cells
+        ∙ (adjoint_cell w.shared j e.vs2 e.bs2 (let a = e.wide in let b = fit.room in omega arith) i ∙ the-adjoint));
       values = like_along u w.site.keys e.vs2 sj s (along_along (unit j) s) e.like;
     }
   where

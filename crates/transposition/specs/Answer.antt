@@ -1,6 +1,5 @@
 -- The law of the reverse part, as one statement.
-use Rattle.std.specs.Prelude.{◌≡◌, ℕ, true, false, List, length, Some, Ok, slice_index}
-use Rattle.pairing.specs.Ring.{Same}
+use Rattle.std.specs.Prelude.{◌≡◌, ℕ, ◌+◌, ◌<◌, true, false, List, length, Some, Ok, slice_index}
 use Rattle.fl_ast.specs.Tree.{Statements}
 use Rattle.operations.specs.Tree.{Played, play}
 use Rattle.meaning.specs.declared.value.Dual.{Dual}
@@ -25,7 +24,12 @@ pub record Answer (w : World) (u : Use) (xs : Statements) (s : Cells) (vs seed :
   pub bs2 : List ℕ
   pub out : (reverse_run w xs s vs seed).out ≡ local w.shared empty vs2 bs2
   pub cells : (reverse_run w xs s vs seed).cells ≡ flat w.shared vs2 bs2
-  pub adjoint : Same (slice_index bs2 j) (adjoint_at (run_all xs w.site) s seed j)
+  pub wide : length vs2 ≡ length w.site.keys
+  pub long : length bs2 ≡ length w.site.keys
+  pub words : AreWords bs2
+  -- the adjoint that the unit directions define
+  pub adjoint : slice_index bs2 j ≡ adjoint_at (run_all xs w.site) s seed j
+  pub cell : j < w.shared → slice_index (reverse_run w xs s vs seed).cells (w.shared + j) ≡ adjoint_at (run_all xs w.site) s seed j
   pub values : Like u w.site.keys vs2 s
 
 abbrev pub ReverseIsTransposed : Type 0
