@@ -38,3 +38,4 @@ pub mod Meeting
 mod WithPrivate
 mod WithNested
 mod WithCollapsed
+pub mod WholePrograms

@@ -102,7 +102,7 @@ like_along u keys vs s t e l p v h n =
     let y = some_of (content s p) v same in
     l p y.0 y.1 n ∙ pointed_some (content s p) v same y.0 y.1
 
-along_along : (ts : List ℕ) (s : Cells) → cells_along [] (cells_along ts s) ≡ cells_along [] s
+pub along_along : (ts : List ℕ) (s : Cells) → cells_along [] (cells_along ts s) ≡ cells_along [] s
 along_along ts [] = refl
 along_along [] (c ∷ s) = rw (twice 0 c, along_along [] s) refl
   where
@@ -118,12 +118,12 @@ along_along (t ∷ ts) (c ∷ s) = rw (twice t c, along_along ts s) refl
     twice t (Some (Ring d)) = refl
 
 -- a run in another direction ends, too
-record Turned (r : Result Cells TrapAt) (s2 : Cells) : Type 0 where
+pub record Turned (r : Result Cells TrapAt) (s2 : Cells) : Type 0 where
   pub s3 : Cells
   pub out : r ≡ Ok s3
   pub same : cells_along [] s2 ≡ cells_along [] s3
 
-turned : (r q : Result Cells TrapAt) (s2 : Cells) → q ≡ Ok s2 → values_out q ≡ values_out r → Turned r s2
+pub turned : (r q : Result Cells TrapAt) (s2 : Cells) → q ≡ Ok s2 → values_out q ≡ values_out r → Turned r s2
 turned (Ok c) q s2 e h = let f : values_out (Ok s2) ≡ values_out (Ok c) = ap values_out (sym e) ∙ h in record { s3 = c; out = refl; same = (let g : cells_along [] s2 ≡ cells_along [] c = cc in g) }
 turned (Err x) q s2 e h = let f : values_out (Ok s2) ≡ values_out (Err x) = ap values_out (sym e) ∙ h in cc
 
@@ -161,7 +161,7 @@ answered w u xs s s2 vs seed j d sound calm fit h like wide long small ring aliv
     pair_live (λ p. u.live (name_at w.site.keys p)) 0 seed (map tangent_of t.s3) (λ p o. unmet w u t.s3 seed p kept.fit dead (ap (λ (m : ℕ). u.live (name_at w.site.keys m)) (omega arith) ∙ o)) in
     let the-adjoint : slice_index e.bs2 j ≡ adjoint_at (run_all xs w.site) s seed j =
     exact (slice_index e.bs2 j) (adjoint_at (run_all xs w.site) s seed j) (e.words j) (adjoint_word seed (run_all xs w.site sj).out)
-      (of_equal _ _ (sym unit-pair) ∙ (e.pairs ∙ (seen ∙ (sym (paired_is seed t.s3) ∙ of_equal _ _ (ap (pairing_after seed) (sym t.out)))))) in
+    (of_equal _ _ (sym unit-pair) ∙ (e.pairs ∙ (seen ∙ (sym (paired_is seed t.s3) ∙ of_equal _ _ (ap (pairing_after seed) (sym t.out)))))) in
     record {
       vs2 = e.vs2;
       bs2 = e.bs2;
@@ -172,7 +172,7 @@ answered w u xs s s2 vs seed j d sound calm fit h like wide long small ring aliv
       words = e.words;
       adjoint = the-adjoint;
       cell = λ i. ap (λ (r : Played Local). slice_index r.cells (w.shared + j)) (sym same-tree) ∙ (ap (λ (c : List ℕ). slice_index c (w.shared + j)) e.cells
-        ∙ (adjoint_cell w.shared j e.vs2 e.bs2 (let a = e.wide in let b = fit.room in omega arith) i ∙ the-adjoint));
+          ∙ (adjoint_cell w.shared j e.vs2 e.bs2 (let a = e.wide in let b = fit.room in omega arith) i ∙ the-adjoint));
       values = like_along u w.site.keys e.vs2 sj s (along_along (unit j) s) e.like;
     }
   where
