@@ -39,3 +39,4 @@ mod WithPrivate
 mod WithNested
 mod WithCollapsed
 pub mod WholePrograms
+pub mod RoundFacts

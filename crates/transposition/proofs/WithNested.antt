@@ -83,10 +83,8 @@ rounds_sound : SoundRounds world outer inner 1 clauses i body
 rounds_sound = record {
   variables = (own_i, tt);
   whole = λ z h. named i z (λ t. site.ring t ≡ false) h refl;
-  apart = λ z h. refl;
   unvaried = λ z h. named i z (λ t. writes_in t body ≡ false) h refl;
   privates = tt;
-  assigned = λ z h. cc;
   pushed = λ z h k. refl;
   needed = λ z h k e. wider (bytes_eq z i) (bytes_eq z j) h e;
   outside = λ z h. (later_off (bytes_eq z i) (bytes_eq z j) h, refl, early_off (bytes_eq z i) (bytes_eq z j) h);
@@ -94,7 +92,6 @@ rounds_sound = record {
   moved = λ z. refl;
   dead = dead;
   stays = stays;
-  listed = λ z h. cc;
   inside = inside;
   silent = λ z. refl;
   summed = ((λ h. cc), ((λ h. record { q = 1; place = refl; shared = omega arith }), ((λ h. cc), ((λ h. cc), ((λ h. cc), ((λ h. cc), tt))))));

@@ -8,7 +8,6 @@ use Rattle.fl_ast.specs.declared.directive.Directive.{Directive}
 use Rattle.fl_ast.specs.Tree.{Statements, statement}
 use Rattle.fl_types.specs.declared.access.AccessKind.TheVariants.{Read}
 use Rattle.fl_types.specs.declared.choice.Choice.TheVariants.{Shared}
-use Rattle.fl_types.specs.Sharing.{assigns_in, has_name}
 use Rattle.meaning.specs.Logs.{Log}
 use Rattle.meaning.specs.Sites.{Cells, Site, opening_site}
 use Rattle.meaning.specs.Statements.{Heads, iterations}
@@ -92,10 +91,8 @@ rounds_sound : SoundRounds world outer inner 1 directive i body
 rounds_sound = record {
   variables = (own_i, tt);
   whole = λ z h. named i z (λ y. site.ring y ≡ false) h refl;
-  apart = λ z h. named i z (λ y. has_name y (d ∷ []) ≡ false) h refl;
   unvaried = λ z h. named i z (λ y. writes_in y body ≡ false) h refl;
   privates = (own_d, tt);
-  assigned = λ z h. named d z (λ y. assigns_in y body ≡ writes_in y body) h refl;
   pushed = λ z h k. refl;
   needed = λ z h k e. neither (bytes_eq z d) (bytes_eq z i) k e;
   outside = λ z h. (refl, second_off (bytes_eq z i) (bytes_eq z d) h, first_off (bytes_eq z i) (bytes_eq z d) h);
@@ -103,7 +100,6 @@ rounds_sound = record {
   moved = λ z. refl;
   dead = dead;
   stays = stays;
-  listed = λ z h. h;
   inside = inside;
   silent = λ z. refl;
   summed = ((λ h. cc), ((λ h. cc), ((λ h. cc), ((λ h. cc), tt))));
