@@ -34,7 +34,8 @@ use Rattle.transposition.specs.Worlds.{World, Local, value_increment, name_at}
 use Rattle.transposition.specs.Reads.{place_tree}
 use Rattle.transposition.specs.Spread.{increments}
 use Rattle.transposition.specs.Back.{adjoint_tree, rest_tree, increment_reversal, rest_occurrences, increment_back}
-use Rattle.transposition.specs.Law.{Use, flat, local, Like, HasKind, Fit, tangents, HasTouch, Within, CoverAll, Ends, Undoes}
+use Rattle.transposition.specs.Law.{Use, flat, local, Like, Fit, tangents, HasTouch, Within, CoverAll, Ends, Undoes}
+use Rattle.meaning.specs.Fitting.{HasKind}
 use Rattle.transposition.specs.Sound.{SoundIncrement, NeedsTerms, QuietTerms, KindedTerms}
 use Rattle.transposition.proofs.Split.{grow_value_played}
 use Rattle.transposition.proofs.Keys.{Stands, stands}

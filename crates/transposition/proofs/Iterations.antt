@@ -29,7 +29,8 @@ use Rattle.meaning.specs.Adjoints.{tangent_of}
 use Rattle.transposition.specs.Tapes.{Tape, Tapes, empty, tape_after, tape_at}
 use Rattle.transposition.specs.Worlds.{World, Local, name_at, in_iteration}
 use Rattle.transposition.specs.Back.{loop_variables, with_variable_words, after_private_pops, with_clear_privates, iteration_local, iteration_tree, back_all}
-use Rattle.transposition.specs.Law.{Use, local, flat, Like, tangents, Fit, HasKind, Within, CoverAll, Ends, Undoes, AreWords}
+use Rattle.transposition.specs.Law.{Use, local, flat, Like, tangents, Fit, Within, CoverAll, Ends, Undoes, AreWords}
+use Rattle.meaning.specs.Fitting.{HasKind}
 use Rattle.transposition.specs.Sound.{AllOwn, privates_of, writes_in}
 use Rattle.transposition.proofs.Split.{less, not_less}
 use Rattle.transposition.proofs.Places.{content_past}

@@ -40,3 +40,4 @@ mod WithNested
 mod WithCollapsed
 pub mod WholePrograms
 pub mod RoundFacts
+pub mod Fits

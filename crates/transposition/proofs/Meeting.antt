@@ -1,6 +1,6 @@
 -- What programs that meet the premises of the law are shown with.
 use Rattle.std.proofs.Common.{◌≡◌, ℕ, zero, suc, List, [], ◌∷◌, refl, ap, sym, ◌∙◌, subst, Bool, true, false, not, ◌&&◌, ◌||◌, Option, Some, None, arith}
-use Rattle.std.specs.Prelude.{bytes_eq, nat_lt, nat_eq, slice_get}
+use Rattle.std.specs.Prelude.{bytes_eq, nat_lt, nat_eq}
 use Rattle.std.proofs.lemmas.Bool.{and_parts}
 use Rattle.std.proofs.lemmas.Bool.Decides.{nat_tests}
 use Rattle.std.proofs.lemmas.Slice.Eq.{bytes_eq-Decides}
@@ -11,9 +11,11 @@ use Rattle.fl_types.specs.Sharing.{has_name}
 use Rattle.meaning.specs.declared.value.Value.{Value}
 use Rattle.meaning.specs.declared.value.Value.TheVariants.{Index, Ring}
 use Rattle.meaning.specs.Sites.{Key, Cells, Site, kind_of, word_of}
-use Rattle.meaning.specs.Expressions.{content}
+use Rattle.meaning.specs.Fitting.{CellFits, CellsFit}
 use Rattle.transposition.specs.Worlds.{name_at}
-use Rattle.transposition.specs.Law.{Use, Like, HasKind}
+use Rattle.transposition.specs.Law.{Use, Like}
+use Rattle.meaning.specs.Fitting.{HasKind}
+use Rattle.transposition.proofs.Keys.{name_later}
 use Rattle.transposition.proofs.Places.{content_later}
 
 -- ---- names
@@ -75,27 +77,22 @@ cell_held k None = true
 cell_held k (Some v) = kind_held k v
 
 abbrev pub cells_held : Site → List Key → Cells → Bool
-cells_held site keys [] = true
+cells_held site [] [] = true
+cells_held site (k ∷ keys) [] = false
 cells_held site [] (c ∷ s) = false
 cells_held site (k ∷ keys) (c ∷ s) = cell_held (kind_of site k.0) c && cells_held site keys s
 
-pub name_later : (k : Key) (keys : List Key) (p : ℕ) → name_at (k ∷ keys) (suc p) ≡ name_at keys p
-name_later k keys p = by_key (slice_get keys p) refl
-  where
-    by_key : (o : Option Key) → slice_get keys p ≡ o → name_at (k ∷ keys) (suc p) ≡ name_at keys p
-    by_key None e = rw e refl
-    by_key (Some x) e = rw e refl
+cell_fits : (site : Site) (k : Key) (c : Option Value) → cell_held (kind_of site k.0) c ≡ true → CellFits site k c
+cell_fits site k None h = tt
+cell_fits site k (Some v) h = has_kind (kind_of site k.0) v h
 
-some_held : (k : Kind) (c : Option Value) (v : Value) → c ≡ Some v → cell_held k c ≡ true → HasKind k v
-some_held k None v e h = cc
-some_held k (Some x) v e h = let f : x ≡ v = cc in subst (λ (y : Value). HasKind k y) f (has_kind k x h)
-
-pub held_kinds : (site : Site) (keys : List Key) (s : Cells) → cells_held site keys s ≡ true → (p : ℕ) (v : Value) → content s p ≡ Some v → HasKind (kind_of site (name_at keys p)) v
-held_kinds site keys [] h p v e = let f : None ≡ Some v = e in cc
-held_kinds site [] (c ∷ s) h p v e = cc
-held_kinds site (k ∷ keys) (c ∷ s) h zero v e = some_held (kind_of site k.0) c v e (and_parts (cell_held (kind_of site k.0) c) (cells_held site keys s) h).0
-held_kinds site (k ∷ keys) (c ∷ s) h (suc p) v e =
-    subst (λ (x : List ℕ). HasKind (kind_of site x) v) (sym (name_later k keys p)) (held_kinds site keys s (and_parts (cell_held (kind_of site k.0) c) (cells_held site keys s) h).1 p v (sym (content_later c s p) ∙ e))
+pub held_fits : (site : Site) (keys : List Key) (s : Cells) → cells_held site keys s ≡ true → CellsFit site keys s
+held_fits site [] [] h = tt
+held_fits site (k ∷ keys) [] h = cc
+held_fits site [] (c ∷ s) h = cc
+held_fits site (k ∷ keys) (c ∷ s) h =
+    let r = and_parts (cell_held (kind_of site k.0) c) (cells_held site keys s) h in
+    (cell_fits site k c r.0, held_fits site keys s r.1)
 
 -- ---- words of cells, by computing
 

@@ -5,13 +5,13 @@ use Rattle.fl_ast.specs.declared.kind.Kind.TheVariants as kind
 use Rattle.fl_ast.specs.Tree.{Statements}
 use Rattle.fl_types.specs.declared.choice.Choice.TheVariants.{Shared}
 use Rattle.meaning.specs.Sites.{Cells, Site, opening_site}
-use Rattle.meaning.specs.Adjoints.{cells_along, unit}
 use Rattle.meaning.proofs.Small.{declared, scalar, word, name, to, ◌times◌, only, set as set_to, all_pushed}
+use Rattle.meaning.specs.Fitting.{Fits}
 use Rattle.transposition.specs.Worlds.{World}
-use Rattle.transposition.specs.Law.{Use, Like, Fit, AreWords}
+use Rattle.transposition.specs.Law.{Use, Like, AreWords}
 use Rattle.transposition.specs.Sound.{SoundAll}
 use Rattle.transposition.specs.Answer.{Answer}
-use Rattle.transposition.proofs.Meeting.{held_kinds, held_words}
+use Rattle.transposition.proofs.Meeting.{held_fits, held_words}
 use Rattle.transposition.proofs.Words.{all_small}
 use Rattle.transposition.proofs.Transposed.{answered}
 
@@ -50,8 +50,8 @@ sound = (
   tt,
 )
 
-fit : Fit world names (cells_along (unit 0) cells)
-fit = record { long = refl; room = omega arith; kinds = held_kinds site site.keys (cells_along (unit 0) cells) refl; still = λ p h. cc }
+fits : Fits site cells
+fits = held_fits site site.keys cells refl
 
 like : Like names site.keys (5 ∷ 25 ∷ []) (word 5 ∷ word 25 ∷ [])
 like = held_words names site.keys (5 ∷ 25 ∷ []) (word 5 ∷ word 25 ∷ []) refl
@@ -60,4 +60,4 @@ small : AreWords (0 ∷ 1 ∷ [])
 small = all_small (0 ∷ 1 ∷ []) refl
 
 met : Answer world names square cells (5 ∷ 25 ∷ []) (0 ∷ 1 ∷ []) 0
-met = answered world names square cells (word 5 ∷ word 25 ∷ []) (5 ∷ 25 ∷ []) (0 ∷ 1 ∷ []) 0 (record { value = 5; tangent = 0 }) sound (tt, λ s h. tt) fit refl like refl refl small refl refl (λ p h k. cc)
+met = answered world names square cells (word 5 ∷ word 25 ∷ []) (5 ∷ 25 ∷ []) (0 ∷ 1 ∷ []) 0 (record { value = 5; tangent = 0 }) sound (tt, λ s h. tt) fits (omega arith) refl refl like refl refl small refl refl (λ p h k. cc)

@@ -13,12 +13,13 @@ use Rattle.meaning.specs.Sites.{Cells, Site, opening_site}
 use Rattle.meaning.specs.Statements.{Heads, iterations}
 use Rattle.meaning.specs.Adjoints.{cells_along, unit}
 use Rattle.meaning.proofs.Small.{declared, scalar, array, word, number, one, name, at, into, ◌times◌, only, set as set_to, clauses, parallel, all_pushed}
+use Rattle.meaning.specs.Fitting.{Fits}
 use Rattle.transposition.specs.Worlds.{World, in_iteration, name_at}
-use Rattle.transposition.specs.Law.{Use, Like, Fit, HasTouch, Calm, AreWords}
+use Rattle.transposition.specs.Law.{Use, Like, HasTouch, Calm, AreWords}
 use Rattle.transposition.specs.Sound.{writes_in, SoundAll, SoundRounds, Own}
 use Rattle.transposition.specs.Calms.{IsCalmAll, iteration_log}
 use Rattle.transposition.specs.Answer.{Answer}
-use Rattle.transposition.proofs.Meeting.{not_true, or_false, or_none, named, only_at, held_kinds, held_words}
+use Rattle.transposition.proofs.Meeting.{not_true, or_false, or_none, named, only_at, held_fits, held_words}
 use Rattle.transposition.proofs.Words.{all_small}
 use Rattle.transposition.proofs.Transposed.{answered}
 
@@ -167,8 +168,8 @@ calm = (
   λ s h. tt,
 )
 
-fit : Fit world outer (cells_along (unit 1) cells)
-fit = record { long = refl; room = omega arith; kinds = held_kinds site site.keys (cells_along (unit 1) cells) refl; still = λ p h. cc }
+fits : Fits site cells
+fits = held_fits site site.keys cells refl
 
 like : Like outer site.keys (2 ∷ 9 ∷ 25 ∷ 0 ∷ []) (number 2 ∷ word 9 ∷ word 25 ∷ number 2 ∷ [])
 like = held_words outer site.keys (2 ∷ 9 ∷ 25 ∷ 0 ∷ []) (number 2 ∷ word 9 ∷ word 25 ∷ number 2 ∷ []) refl
@@ -178,7 +179,7 @@ small = all_small (0 ∷ 1 ∷ 10 ∷ 0 ∷ []) refl
 
 met : Answer world outer squares cells (2 ∷ 9 ∷ 25 ∷ 0 ∷ []) (0 ∷ 1 ∷ 10 ∷ 0 ∷ []) 1
 unfolding exact_index
-met = answered world outer squares cells (number 2 ∷ word 9 ∷ word 25 ∷ number 2 ∷ []) (2 ∷ 9 ∷ 25 ∷ 0 ∷ []) (0 ∷ 1 ∷ 10 ∷ 0 ∷ []) 1 (record { value = 3; tangent = 0 }) sound calm fit refl like refl refl small refl refl dead_seed
+met = answered world outer squares cells (number 2 ∷ word 9 ∷ word 25 ∷ number 2 ∷ []) (2 ∷ 9 ∷ 25 ∷ 0 ∷ []) (0 ∷ 1 ∷ 10 ∷ 0 ∷ []) 1 (record { value = 3; tangent = 0 }) sound calm fits (omega arith) refl refl like refl refl small refl refl dead_seed
   where
     dead_seed : (p : ℕ) → bytes_eq (name_at site.keys p) x ≡ false → true ≡ true → slice_index (0 ∷ 1 ∷ 10 ∷ 0 ∷ []) p ≡ 0
     dead_seed zero h k = refl

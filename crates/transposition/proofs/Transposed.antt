@@ -23,16 +23,12 @@ use Rattle.transposition.specs.Worlds.{World, Local, name_at}
 use Rattle.transposition.specs.Back.{back_all}
 use Rattle.transposition.specs.Law.{Use, flat, local, Like, Fit, tangents}
 use Rattle.transposition.specs.Answer.{reverse_run, ReverseIsTransposed}
+use Rattle.transposition.proofs.Fits.{still_pointed, unit_fit}
 use Rattle.transposition.proofs.Words.{zero_word, sum_word}
 use Rattle.transposition.proofs.Split.{adjoint_cell}
 use Rattle.transposition.proofs.Places.{content_later, tangent_here}
 use Rattle.transposition.proofs.Whole.{kept_all}
 use Rattle.transposition.proofs.Whole.{undone_all}
-
-still_pointed : (c : Option Value) → tangent_of (with_tangent 0 c) ≡ 0
-still_pointed None = refl
-still_pointed (Some (Index z)) = refl
-still_pointed (Some (Ring d)) = refl
 
 keep_zero : (b : Bool) (x : ℕ) → x ≡ 0 → cond b x 0 ≡ 0
 keep_zero true x h = h
@@ -146,8 +142,9 @@ unfolding big
 exact a b h k e = omega arith
 
 pub answered : ReverseIsTransposed
-answered w u xs s s2 vs seed j d sound calm fit h like wide long small ring alive dead =
+answered w u xs s s2 vs seed j d sound calm fits room moved h like wide long small ring alive dead =
     let sj = cells_along (unit j) s in
+    let fit = unit_fit w u s j fits room moved in
     let unseen = tangents_are_unseen xs w.site s sj (sym (along_along (unit j) s)) in
     let t = turned (run_all xs w.site sj).out (run_all xs w.site s).out s2 h unseen.1 in
     let kept = kept_all xs w u sj t.s3 fit sound t.out in

@@ -1,5 +1,5 @@
 -- The law of transposition for a whole program.
-use Rattle.std.proofs.Common.{◌≡◌, refl, ap, sym, ◌∙◌, subst}
+use Rattle.std.proofs.Common.{[], ◌≤◌, length, map, ◌≡◌, refl, ap, sym, ◌∙◌, subst}
 use Rattle.meaning.specs.Logs.{Log, events}
 use Rattle.meaning.specs.Sites.{Cells}
 use Rattle.meaning.specs.Statements.{run_all}
@@ -12,13 +12,24 @@ use Rattle.meaning.proofs.LawProofs.{unseen as tangents_are_unseen}
 use Rattle.transposition.specs.Worlds.{World}
 use Rattle.transposition.specs.Calms.{IsCalmAll}
 use Rattle.transposition.specs.Programs.{program_world, ProgramIsTransposed}
+use Rattle.fl_ast.specs.declared.decl.Decl.{Decl}
+use Rattle.store_core.specs.Keys.{keys_of, scalar}
+use Rattle.meaning.specs.Fitting.{Fits}
+use Rattle.meaning.proofs.Entries.{directions_fit, entries_fit}
+use Rattle.transposition.proofs.Fits.{all_laid}
 use Rattle.transposition.proofs.Passing.{unstopped}
 use Rattle.transposition.proofs.Transposed.{along_along, Turned, turned, answered}
 
 pub program_transposed : ProgramIsTransposed
-program_transposed p shapes pushed active choices u limits words vs seed s2 j d sound shared fit h e like wide long small dead there ring alive =
-    (answered w u p.body s s2 vs seed j d sound calm fit h like wide long small ring alive dead).cell there ∙ same-adjoint
+program_transposed p shapes pushed active choices u limits words vs seed s2 j d sound shared small-words h e like wide long small dead there ring alive moved =
+    (answered w u p.body s s2 vs seed j d sound calm fits room moved h like wide long small ring alive dead).cell there ∙ same-adjoint
   where
+    fits : Fits (entry_site p shapes pushed) (entry_cells p shapes words)
+    fits = (directions_fit (entry_site p shapes pushed) (entry_cells p shapes words) []).1 (entries_fit p shapes pushed words [] small-words)
+
+    room : length (keys_of shapes) ≤ length (entry_site p shapes pushed).keys
+    room = all_laid shapes (map (λ (d : Decl). scalar d.name) p.decls)
+
     w : World
     w = program_world p shapes pushed active choices
 
@@ -39,4 +50,4 @@ program_transposed p shapes pushed active choices u limits words vs seed s2 j d 
 
     -- what is pushed doesn't change the adjoint
     same-adjoint : adjoint_at (run_all p.body w.site) s seed j ≡ adjoint_of p shapes words seed j
-    same-adjoint = ap (pairing_after seed) (runs_everywhere (entry_site p shapes pushed) (entry_site p shapes no_pushes) refl refl refl (λ x. refl) p.body sj)
+    same-adjoint = ap (pairing_after seed) (runs_everywhere (entry_site p shapes pushed) (entry_site p shapes no_pushes) refl refl (λ x. refl) p.body (λ e. refl) sj)

@@ -12,13 +12,14 @@ use Rattle.meaning.specs.Sites.{Cells, Site, opening_site}
 use Rattle.meaning.specs.Stops.{the_limits}
 use Rattle.meaning.specs.Adjoints.{cells_along, unit}
 use Rattle.meaning.proofs.Small.{declared, scalar, array, word, number, one, name, at, ◌times◌, only, set as set_to, clauses, parallel, all_pushed}
+use Rattle.meaning.specs.Fitting.{Fits}
 use Rattle.transposition.specs.Worlds.{World, in_iteration, name_at}
-use Rattle.transposition.specs.Law.{Use, Fit, SharedApart}
+use Rattle.transposition.specs.Law.{Use, SharedApart}
 use Rattle.transposition.specs.Sound.{writes_in, SoundAll, SoundRounds, Own}
 use Rattle.transposition.specs.Calms.{PairwiseAll, IsCalmAll}
 use Rattle.transposition.specs.Answer.{Answer}
 use Rattle.transposition.proofs.Words.{all_small}
-use Rattle.transposition.proofs.Meeting.{named_two, neither, both_off, held_kinds, held_words, only_at}
+use Rattle.transposition.proofs.Meeting.{named_two, neither, both_off, held_fits, held_words, only_at}
 use Rattle.transposition.proofs.Passing.{unstopped}
 use Rattle.transposition.proofs.Transposed.{answered}
 
@@ -169,12 +170,12 @@ calm : IsCalmAll products world start
 unfolding exact_index
 calm = unstopped world outer products the_limits start _ sound refl refl apart
 
-fit : Fit world outer start
-fit = record { long = refl; room = omega arith; kinds = held_kinds site site.keys start refl; still = λ p h. cc }
+fits : Fits site cells
+fits = held_fits site site.keys cells refl
 
 met : Answer world outer products cells (2 ∷ 3 ∷ 5 ∷ 9 ∷ 15 ∷ 15 ∷ 25 ∷ 0 ∷ 0 ∷ []) (0 ∷ 0 ∷ 0 ∷ 1 ∷ 10 ∷ 100 ∷ 1000 ∷ 0 ∷ 0 ∷ []) 2
 unfolding exact_index
-met = answered world outer products cells last (2 ∷ 3 ∷ 5 ∷ 9 ∷ 15 ∷ 15 ∷ 25 ∷ 0 ∷ 0 ∷ []) (0 ∷ 0 ∷ 0 ∷ 1 ∷ 10 ∷ 100 ∷ 1000 ∷ 0 ∷ 0 ∷ []) 2 (record { value = 5; tangent = 0 }) sound calm fit refl
+met = answered world outer products cells last (2 ∷ 3 ∷ 5 ∷ 9 ∷ 15 ∷ 15 ∷ 25 ∷ 0 ∷ 0 ∷ []) (0 ∷ 0 ∷ 0 ∷ 1 ∷ 10 ∷ 100 ∷ 1000 ∷ 0 ∷ 0 ∷ []) 2 (record { value = 5; tangent = 0 }) sound calm fits (omega arith) refl refl
     (held_words outer site.keys (2 ∷ 3 ∷ 5 ∷ 9 ∷ 15 ∷ 15 ∷ 25 ∷ 0 ∷ 0 ∷ []) last refl) refl refl (all_small (0 ∷ 0 ∷ 0 ∷ 1 ∷ 10 ∷ 100 ∷ 1000 ∷ 0 ∷ 0 ∷ []) refl) refl refl dead_seed
   where
     dead_seed : (p : ℕ) → outer.live (name_at site.keys p) ≡ false → true ≡ true → slice_index (0 ∷ 0 ∷ 0 ∷ 1 ∷ 10 ∷ 100 ∷ 1000 ∷ 0 ∷ 0 ∷ []) p ≡ 0

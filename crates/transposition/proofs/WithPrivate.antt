@@ -14,13 +14,14 @@ use Rattle.meaning.specs.Statements.{Heads, iterations}
 use Rattle.meaning.specs.Stops.{the_limits}
 use Rattle.meaning.specs.Adjoints.{cells_along, unit}
 use Rattle.meaning.proofs.Small.{declared, scalar, array, word, number, one, name, at, to, into, ◌times◌, only, set as set_to, clauses, parallel, all_pushed}
+use Rattle.meaning.specs.Fitting.{Fits}
 use Rattle.transposition.specs.Worlds.{World, in_iteration, name_at}
-use Rattle.transposition.specs.Law.{Use, Fit, SharedApart}
+use Rattle.transposition.specs.Law.{Use, SharedApart}
 use Rattle.transposition.specs.Sound.{writes_in, SoundAll, SoundRounds, Own}
 use Rattle.transposition.specs.Calms.{PairwiseAll, IsCalmAll, iteration_log}
 use Rattle.transposition.specs.Answer.{Answer}
 use Rattle.transposition.proofs.Words.{all_small}
-use Rattle.transposition.proofs.Meeting.{or_false, named, held_kinds, held_words, only_at}
+use Rattle.transposition.proofs.Meeting.{or_false, named, held_fits, held_words, only_at}
 use Rattle.transposition.proofs.Passing.{unstopped}
 use Rattle.transposition.proofs.Squares.{touched_at, all_at}
 use Rattle.transposition.proofs.Clears.{read_of}
@@ -208,12 +209,12 @@ calm : IsCalmAll cubes world start
 unfolding exact_index
 calm = unstopped world outer cubes the_limits start _ sound refl refl apart
 
-fit : Fit world outer start
-fit = record { long = refl; room = omega arith; kinds = held_kinds site site.keys start refl; still = λ p h. cc }
+fits : Fits site cells
+fits = held_fits site site.keys cells refl
 
 met : Answer world outer cubes cells (2 ∷ 27 ∷ 125 ∷ 0 ∷ 0 ∷ []) (0 ∷ 1 ∷ 10 ∷ 0 ∷ 0 ∷ []) 1
 unfolding exact_index
-met = answered world outer cubes cells last (2 ∷ 27 ∷ 125 ∷ 0 ∷ 0 ∷ []) (0 ∷ 1 ∷ 10 ∷ 0 ∷ 0 ∷ []) 1 (record { value = 3; tangent = 0 }) sound calm fit refl
+met = answered world outer cubes cells last (2 ∷ 27 ∷ 125 ∷ 0 ∷ 0 ∷ []) (0 ∷ 1 ∷ 10 ∷ 0 ∷ 0 ∷ []) 1 (record { value = 3; tangent = 0 }) sound calm fits (omega arith) refl refl
     (held_words outer site.keys (2 ∷ 27 ∷ 125 ∷ 0 ∷ 0 ∷ []) last refl) refl refl (all_small (0 ∷ 1 ∷ 10 ∷ 0 ∷ 0 ∷ []) refl) refl refl dead_seed
   where
     dead_seed : (p : ℕ) → bytes_eq (name_at site.keys p) x ≡ false → true ≡ true → slice_index (0 ∷ 1 ∷ 10 ∷ 0 ∷ 0 ∷ []) p ≡ 0
