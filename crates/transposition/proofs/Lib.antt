@@ -41,3 +41,4 @@ mod WithCollapsed
 pub mod WholePrograms
 pub mod RoundFacts
 pub mod Fits
+pub mod WellKinded

@@ -5,5 +5,5 @@ mod laws;
 
 pub use laws::{
     iterations_are_disciplined, program_is_transposed, reverse_is_transposed,
-    statements_are_undone, unstopped_is_calm,
+    statements_are_undone, unstopped_is_calm, well_kinded_is_typed,
 };
