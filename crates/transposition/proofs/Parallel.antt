@@ -17,7 +17,7 @@ use Rattle.fl_types.specs.Nests.{is_nest, further_head, iteration_body}
 use Rattle.transposition.proofs.RoundFacts.{RoundFacts}
 use Rattle.transposition.proofs.Heads.{AllCounted, head_names, below_is, heads_is, settings, AllIndex, names_set, all_index}
 use Rattle.transposition.proofs.Nesting.{unwritten}
-use Rattle.transposition.specs.Tapes.{Tape, Tapes, none, more, many, empty, top_tapes, both_tapes, tape_count, tape_at, tape_after, iteration_tapes}
+use Rattle.transposition.specs.Tapes.{Tape, Tapes, none, more, many, empty, top_tapes, both_tapes, tape_at, tape_after, iteration_tapes}
 use Rattle.transposition.specs.Worlds.{World, Local, in_iteration}
 use Rattle.transposition.specs.Back.{variables_of, loop_variables, heads_on, below_bounds, iteration_tree, parallel_back, back_all, after_pop}
 use Rattle.transposition.specs.Law.{Use, local, flat, Like, tangents, Fit, CoverAll, Ends, Calm, AreWords}
@@ -48,6 +48,10 @@ chained (suc n) f s s2 h i k =
     by_last early false e q = early (below_by i n k (λ g. (let m : true ≡ false = sym (eq-eqb i n g) ∙ e in cc)))
 
 -- ---- the tapes of the iterations
+
+abbrev tape_count : Tapes → ℕ
+tape_count none = 0
+tape_count (more t ts) = suc (tape_count ts)
 
 size_joined : (xs : Tapes) (t : Tape) → tape_count (both_tapes xs (more t none)) ≡ tape_count xs + 1
 size_joined none t = refl

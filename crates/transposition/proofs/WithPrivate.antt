@@ -5,7 +5,7 @@ use Rattle.std.specs.Prelude.{codes, slice_index, bytes_eq}
 use Rattle.ring_core.specs.Index.{exact_index}
 use Rattle.fl_ast.specs.declared.kind.Kind.TheVariants as kind
 use Rattle.fl_ast.specs.declared.directive.Directive.{Directive}
-use Rattle.fl_ast.specs.Tree.{Statements, statement}
+use Rattle.fl_ast.specs.Tree.{Statements, statement, Subroutine}
 use Rattle.fl_types.specs.declared.access.AccessKind.TheVariants.{Read}
 use Rattle.fl_types.specs.declared.choice.Choice.TheVariants.{Shared}
 use Rattle.meaning.specs.Logs.{Log}
@@ -20,7 +20,12 @@ use Rattle.transposition.specs.Law.{Use, SharedApart}
 use Rattle.transposition.specs.Sound.{writes_in, SoundAll, SoundRounds, Own}
 use Rattle.transposition.specs.Calms.{PairwiseAll, IsCalmAll, iteration_log}
 use Rattle.transposition.specs.Answer.{Answer}
-use Rattle.transposition.proofs.Words.{all_small}
+use Rattle.store_core.specs.declared.layout.Shape.{Shape}
+use Rattle.meaning.specs.Programs.{entry_cells, adjoint_of}
+use Rattle.transposition.specs.Answer.{reverse_run}
+use Rattle.transposition.specs.Programs.{program_world}
+use Rattle.transposition.proofs.WholePrograms.{program_transposed}
+use Rattle.transposition.proofs.Words.{all_small, all_words}
 use Rattle.transposition.proofs.Meeting.{or_false, named, held_fits, held_words, only_at}
 use Rattle.transposition.proofs.Passing.{unstopped}
 use Rattle.transposition.proofs.Squares.{touched_at, all_at}
@@ -216,6 +221,41 @@ met : Answer world outer cubes cells (2 ∷ 27 ∷ 125 ∷ 0 ∷ 0 ∷ []) (0 �
 unfolding exact_index
 met = answered world outer cubes cells last (2 ∷ 27 ∷ 125 ∷ 0 ∷ 0 ∷ []) (0 ∷ 1 ∷ 10 ∷ 0 ∷ 0 ∷ []) 1 (record { value = 3; tangent = 0 }) sound calm fits (omega arith) refl refl
     (held_words outer site.keys (2 ∷ 27 ∷ 125 ∷ 0 ∷ 0 ∷ []) last refl) refl refl (all_small (0 ∷ 1 ∷ 10 ∷ 0 ∷ 0 ∷ []) refl) refl refl dead_seed
+  where
+    dead_seed : (p : ℕ) → bytes_eq (name_at site.keys p) x ≡ false → true ≡ true → slice_index (0 ∷ 1 ∷ 10 ∷ 0 ∷ 0 ∷ []) p ≡ 0
+    dead_seed zero h k = refl
+    dead_seed (suc zero) h k = cc
+    dead_seed (suc (suc zero)) h k = cc
+    dead_seed (suc (suc (suc zero))) h k = refl
+    dead_seed (suc (suc (suc (suc zero)))) h k = refl
+    dead_seed (suc (suc (suc (suc (suc p))))) h k = refl
+
+-- ---- the whole program
+
+abbrev program : Subroutine
+program = record {
+  name = codes "cubes";
+  args = n ∷ x ∷ [];
+  decls = declared kind.Index n ∷ declared kind.Ring x ∷ declared kind.Index i ∷ declared kind.Ring d ∷ [];
+  body = cubes;
+}
+
+abbrev shapes : List Shape
+shapes = scalar n ∷ array x 2 ∷ []
+
+abbrev seed : List ℕ
+seed = 0 ∷ 1 ∷ 10 ∷ 0 ∷ 0 ∷ []
+
+abbrev final : List ℕ
+final = 2 ∷ 27 ∷ 125 ∷ 0 ∷ 0 ∷ []
+
+program_met :
+    slice_index (reverse_run (program_world program shapes all_pushed (λ z. bytes_eq z x || bytes_eq z d) (λ k z. Shared)) cubes (entry_cells program shapes (2 ∷ 3 ∷ 5 ∷ [])) final seed).cells 4
+    ≡ adjoint_of program shapes (2 ∷ 3 ∷ 5 ∷ []) seed 1
+unfolding exact_index
+program_met =
+    program_transposed program shapes all_pushed (λ z. bytes_eq z x || bytes_eq z d) (λ k z. Shared) outer the_limits (2 ∷ 3 ∷ 5 ∷ []) final seed last 1 (record { value = 3; tangent = 0 }) sound apart (all_words (2 ∷ 3 ∷ 5 ∷ []) refl) refl refl
+    (held_words outer site.keys final last refl) refl refl (all_small seed refl) dead_seed (omega arith) refl refl refl
   where
     dead_seed : (p : ℕ) → bytes_eq (name_at site.keys p) x ≡ false → true ≡ true → slice_index (0 ∷ 1 ∷ 10 ∷ 0 ∷ 0 ∷ []) p ≡ 0
     dead_seed zero h k = refl
