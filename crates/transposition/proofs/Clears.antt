@@ -28,7 +28,7 @@ read_by : (b : Bool) (p : ℕ) (l : Log) → cond b (HasTouch Read p l) ⊥ → 
 read_by true p l h = h
 read_by false p l h = absurd h
 
-read_of : (w : World) (p : ℕ) (l : Log) → HasDifferentiatedRead w.active p l → HasTouch Read p l
+pub read_of : (w : World) (p : ℕ) (l : Log) → HasDifferentiatedRead w.active p l → HasTouch Read p l
 read_of w p silence h = absurd h
 read_of w p (single e) h = absurd h
 read_of w p (touched q k) h = absurd h

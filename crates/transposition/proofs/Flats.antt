@@ -22,7 +22,7 @@ use Rattle.meaning.specs.declared.value.Value.TheVariants.{Index, Ring}
 use Rattle.meaning.specs.Values.{Found, of_index, dual_mul, dual_pow, as_dual, rank, ranks, compares, whole_numbers, literal_value, index_result, ring_result, binary_result, negation_result, power_result, larger_result, smaller_result, absolute_result, remainder, on_one, on_two, call_result, relates}
 use Rattle.meaning.specs.Sites.{word_of}
 use Rattle.transposition.specs.Reads.{value_from}
-use Rattle.transposition.specs.Law.{HasKind}
+use Rattle.meaning.specs.Fitting.{HasKind}
 
 abbrev pub flat_value : Value → Value
 flat_value (Index z) = Index z

@@ -23,7 +23,8 @@ use Rattle.transposition.specs.Tapes.{Tape, word, tape_after}
 use Rattle.transposition.specs.Worlds.{World, Local, name_at, with_value}
 use Rattle.transposition.specs.Reads.{place_or_zero}
 use Rattle.transposition.specs.Back.{turns_on, below_bounds, heads_on, variables_of, with_variable_words}
-use Rattle.transposition.specs.Law.{Use, local, Fit, HasKind, Within}
+use Rattle.transposition.specs.Law.{Use, local, Fit, Within}
+use Rattle.meaning.specs.Fitting.{HasKind}
 use Rattle.transposition.specs.Sound.{AllOwn, Literals, OptionLiterals, HeadLiterals}
 use Rattle.transposition.proofs.Split.{set_own, cells_kept}
 use Rattle.transposition.proofs.Keys.{stands}

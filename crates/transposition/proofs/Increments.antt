@@ -30,11 +30,12 @@ use Rattle.meaning.specs.declared.value.Dual.{Dual}
 use Rattle.ring_core.specs.Ring.{ring_add, ring_sub}
 use Rattle.meaning.specs.Adjoints.{tangent_of}
 use Rattle.transposition.specs.Tapes.{Tape, tape_after}
-use Rattle.transposition.specs.Worlds.{World, Local, increment_value, name_at}
+use Rattle.transposition.specs.Worlds.{World, Local, value_increment, name_at}
 use Rattle.transposition.specs.Reads.{place_tree}
-use Rattle.transposition.specs.Spread.{spread}
-use Rattle.transposition.specs.Back.{adjoint_tree, rest_tree, undo_increment, rest_occurrences, increment_back}
-use Rattle.transposition.specs.Law.{Use, flat, local, Like, HasKind, Fit, tangents, HasTouch, Within, CoverAll, Ends, Undoes}
+use Rattle.transposition.specs.Spread.{increments}
+use Rattle.transposition.specs.Back.{adjoint_tree, rest_tree, increment_reversal, rest_occurrences, increment_back}
+use Rattle.transposition.specs.Law.{Use, flat, local, Like, Fit, tangents, HasTouch, Within, CoverAll, Ends, Undoes}
+use Rattle.meaning.specs.Fitting.{HasKind}
 use Rattle.transposition.specs.Sound.{SoundIncrement, NeedsTerms, QuietTerms, KindedTerms}
 use Rattle.transposition.proofs.Split.{grow_value_played}
 use Rattle.transposition.proofs.Keys.{Stands, stands}
@@ -277,7 +278,7 @@ either_touched false q ts h = inl h
 ungrown_ran : (w : World) (u : Use) (s : Cells) (vs bs : List ℕ) (t : Tape) (ts : Log) (atomic : Bool) (p : Designator) (rs : List Signed) (s2 : Cells) → Fit w u s → SoundIncrement w u p rs → (k : IncrementRun w.site s p rs (increment_kind atomic (w.site.pluses p.name)) s2)
     → TouchesIn (terms_of rs w.site s).log ts → TouchesIn (values_of p.subscripts w.site s).log ts → (w.site.accessed p.name ≡ true → cond (atomic || w.site.pluses p.name) (HasTouch Update k.q ts) (HasTouch Write k.q ts))
     → Like u w.site.keys vs (slice_set s k.q (Some (Ring (incremented_dual k.ds (as_dual k.v))))) → length vs ≡ length w.site.keys → length bs ≡ length w.site.keys
-    → Ungrown w u ts (play (undo_increment w atomic p rs (local w.shared t vs bs)) (flat w.shared vs bs)) t s bs
+    → Ungrown w u ts (play (increment_reversal w atomic p rs (local w.shared t vs bs)) (flat w.shared vs bs)) t s bs
 ungrown_ran w u s vs bs t ts atomic p rs s2 fit sound k told subs covered l wide long = by_push (w.site.pushed p.name) refl
   where
     c : List ℕ
@@ -322,12 +323,12 @@ ungrown_ran w u s vs bs t ts atomic p rs s2 fit sound k told subs covered l wide
     free_terms rs q h = needs_terms_without u p.name rs q h
 
     by_push : (b : Bool) → w.site.pushed p.name ≡ b
-        → Ungrown w u ts (play (cond b (and_then (rest_tree w rs 0 m) (λ a. and_then (place_tree p w m) (λ q. increment_value w one q a m))) (done m)) c) t s bs
+        → Ungrown w u ts (play (cond b (and_then (rest_tree w rs 0 m) (λ a. and_then (place_tree p w m) (λ q. value_increment w one q a m))) (done m)) c) t s bs
     by_push true e =
         let terms : Got w ts c (play (rest_tree w rs 0 m) c) a silence = rest_got w (without p.name u) s vs bs t ts sc rs k.ds 0 (free_terms rs (sound.terms e) sound.apart) k.out told in
         let place : Got w ts c (play (place_tree p w m) c) k.q silence = place_got w (without p.name u) s vs bs t ts sc p k.q (needs_all_without u p.name p.subscripts (sound.target.undone e) sound.target.free) at in
-        rw (got_then w ts silence (rest_tree w rs 0 m) (λ a. and_then (place_tree p w m) (λ q. increment_value w one q a m)) c a terms)
-        (rw (got_then w ts silence (place_tree p w m) (λ q. increment_value w one q a m) c k.q place)
+        rw (got_then w ts silence (rest_tree w rs 0 m) (λ a. and_then (place_tree p w m) (λ q. value_increment w one q a m)) c a terms)
+        (rw (got_then w ts silence (place_tree p w m) (λ q. value_increment w one q a m) c k.q place)
         (rw (grow_value_played w one t k.q a vs bs (room w (without p.name u) s vs bs sc)) (record {
           vs1 = slice_set vs k.q (ring_add (slice_index vs k.q) a);
           out = refl;
@@ -387,7 +388,7 @@ increment_undone w u ts atomic p rs sound s t fit ins s2 h vs bs l wide long sma
     like2 : Like u w.site.keys vs (slice_set s k.q x)
     like2 = subst (λ (y : Cells). Like u w.site.keys vs y) k.cells l
 
-    un : Ungrown w u ts (play (undo_increment w atomic p rs m) c) t s bs
+    un : Ungrown w u ts (play (increment_reversal w atomic p rs m) c) t s bs
     un = ungrown_ran w u s vs bs t ts atomic p rs s2 fit sound k terms_told subs_told covered like2 wide long
 
     sc : Scene w u s un.vs1 bs
@@ -400,7 +401,7 @@ increment_undone w u ts atomic p rs sound s t fit ins s2 h vs bs l wide long sma
     live_is = ap u.live named ∙ sound.target.live
 
     by_active : (b : Bool) → w.active p.name ≡ b
-        → Ends w u ts (play (and_then (undo_increment w atomic p rs m) (λ y. cond b (and_then (adjoint_tree w p y) (λ a. spread w a (rest_occurrences w.active rs) y)) (done y))) c) t s s2 bs
+        → Ends w u ts (play (and_then (increment_reversal w atomic p rs m) (λ y. cond b (and_then (adjoint_tree w p y) (λ a. increments w a (rest_occurrences w.active rs) y)) (done y))) c) t s s2 bs
     by_active true on =
         let a : ℕ = slice_index bs k.q in
         let ds : List ℕ = tangents u w.site.keys s in
@@ -414,9 +415,9 @@ increment_undone w u ts atomic p rs sound s t fit ins s2 h vs bs l wide long sma
         live_at (λ p. u.live (name_at w.site.keys p)) 0 k.q (map tangent_of s) (ap (λ (p : ℕ). u.live (name_at w.site.keys p)) (omega arith) ∙ (live_is ∙ on)) ∙ (tangent_here s k.q ∙ (ap tangent_of k.held ∙ tangent_held k.v)) in
         let after-store : tangents u w.site.keys s2 ≡ slice_set ds k.q (incremented_dual k.ds (as_dual k.v)).tangent = ap (tangents u w.site.keys) k.cells ∙ tangents_on w u s k.q x (live_is ∙ on) in
         let moved-by : Same (incremented_dual k.ds (as_dual k.v)).tangent (slice_index ds k.q + drift k.ds) = grown_tangent k.ds (as_dual k.v) ∙ of_equal _ _ (ap (λ (z : ℕ). z + drift k.ds) (sym here)) in
-        rw (bind (undo_increment w atomic p rs m) (λ y. and_then (adjoint_tree w p y) (λ a. spread w a (rest_occurrences w.active rs) y)) c)
+        rw (bind (increment_reversal w atomic p rs m) (λ y. and_then (adjoint_tree w p y) (λ a. increments w a (rest_occurrences w.active rs) y)) c)
         (rw (un.out, un.cells)
-        (rw (got_then w ts silence (adjoint_tree w p own) (λ a. spread w a (rest_occurrences w.active rs) own) (flat w.shared un.vs1 bs) a one) (record {
+        (rw (got_then w ts silence (adjoint_tree w p own) (λ a. increments w a (rest_occurrences w.active rs) own) (flat w.shared un.vs1 bs) a one) (record {
           vs2 = un.vs1;
           bs2 = sp.bs2;
           out = sp.out;
@@ -429,7 +430,7 @@ increment_undone w u ts atomic p rs sound s t fit ins s2 h vs bs l wide long sma
           cover = cover_both w ts _ _ un.cover (cover_both w ts _ _ (one.cover (silent ts)) sp.cover);
         })))
     by_active false on =
-        rw (bind (undo_increment w atomic p rs m) (λ y. done y) c) (rw (un.out, un.cells) (record {
+        rw (bind (increment_reversal w atomic p rs m) (λ y. done y) c) (rw (un.out, un.cells) (record {
           vs2 = un.vs1;
           bs2 = bs;
           out = refl;

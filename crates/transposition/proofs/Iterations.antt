@@ -19,6 +19,7 @@ use Rattle.meaning.specs.Expressions.{content}
 use Rattle.meaning.specs.Statements.{Run, with_log, set_log_at, with_all_unset, unset_log, private_words, with_variables, Heads, one_iteration, run_all}
 use Rattle.fl_types.specs.Nests.{iteration_body}
 use Rattle.transposition.specs.Calms.{inner_of}
+use Rattle.transposition.proofs.RoundFacts.{RoundFacts}
 use Rattle.transposition.proofs.Words.{zero_word}
 use Rattle.transposition.proofs.Split.{adjoint_cell}
 use Rattle.transposition.proofs.Collections.{Collected, collections_played}
@@ -27,9 +28,10 @@ use Rattle.transposition.proofs.Heads.{Settings, settings, set_names, AllIndex, 
 use Rattle.meaning.specs.Adjoints.{tangent_of}
 use Rattle.transposition.specs.Tapes.{Tape, Tapes, empty, tape_after, tape_at}
 use Rattle.transposition.specs.Worlds.{World, Local, name_at, in_iteration}
-use Rattle.transposition.specs.Back.{loop_variables, with_variable_words, pop_privates, clear_privates, iteration_local, iteration_tree, back_all}
-use Rattle.transposition.specs.Law.{Use, local, flat, Like, tangents, Fit, HasKind, Within, CoverAll, Ends, Undoes, AreWords}
-use Rattle.transposition.specs.Sound.{AllOwn, privates_of, SoundRounds, writes_in}
+use Rattle.transposition.specs.Back.{loop_variables, with_variable_words, after_private_pops, with_clear_privates, iteration_local, iteration_tree, back_all}
+use Rattle.transposition.specs.Law.{Use, local, flat, Like, tangents, Fit, Within, CoverAll, Ends, Undoes, AreWords}
+use Rattle.meaning.specs.Fitting.{HasKind}
+use Rattle.transposition.specs.Sound.{AllOwn, privates_of, writes_in}
 use Rattle.transposition.proofs.Split.{less, not_less}
 use Rattle.transposition.proofs.Places.{content_past}
 use Rattle.transposition.proofs.Bounds.{Bound, bound}
@@ -114,29 +116,29 @@ not_private w xs p h l = by_test (has_name (name_at w.site.keys p) xs) refl
 abbrev pub Varies : Settings → Directive → List ℕ → Statements → Type 0
 Varies xs directive var tree = set_names xs ≡ loop_variables directive var tree
 
-pub own_variables : (w : World) (u inner : Use) (number : ℕ) (directive : Directive) (var : List ℕ) (tree : Statements) → SoundRounds w u inner number directive var tree → (xs : Settings) → Varies xs directive var tree → AllOwn w (set_names xs)
+pub own_variables : (w : World) (u inner : Use) (number : ℕ) (directive : Directive) (var : List ℕ) (tree : Statements) → RoundFacts w u inner number directive var tree → (xs : Settings) → Varies xs directive var tree → AllOwn w (set_names xs)
 own_variables w u inner number directive var tree sound xs e = subst (λ (l : List (List ℕ)). AllOwn w l) (sym e) sound.variables
 
-pub begun_other : (w : World) (u inner : Use) (number : ℕ) (directive : Directive) (var : List ℕ) (tree : Statements) → SoundRounds w u inner number directive var tree → (xs : Settings) → Varies xs directive var tree → (s : Cells) (p : ℕ)
+pub begun_other : (w : World) (u inner : Use) (number : ℕ) (directive : Directive) (var : List ℕ) (tree : Statements) → RoundFacts w u inner number directive var tree → (xs : Settings) → Varies xs directive var tree → (s : Cells) (p : ℕ)
     → has_name (name_at w.site.keys p) (privates_of w directive var tree) ≡ false → has_name (name_at w.site.keys p) (loop_variables directive var tree) ≡ false → content (begun w directive var tree xs s) p ≡ content s p
 begun_other w u inner number directive var tree sound xs e s p f g =
     (variables_set w xs (with_all_unset w.site (privates_of w directive var tree) s) empty [] [] (own_variables w u inner number directive var tree sound xs e)).same p (ap (has_name (name_at w.site.keys p)) e ∙ g)
     ∙ unset_other w (privates_of w directive var tree) s p sound.privates f
 
-not_varied : (w : World) (u inner : Use) (number : ℕ) (directive : Directive) (var : List ℕ) (tree : Statements) → SoundRounds w u inner number directive var tree → (x : List ℕ) → has_name x (privates_of w directive var tree) ≡ true → has_name x (loop_variables directive var tree) ≡ false
+not_varied : (w : World) (u inner : Use) (number : ℕ) (directive : Directive) (var : List ℕ) (tree : Statements) → RoundFacts w u inner number directive var tree → (x : List ℕ) → has_name x (privates_of w directive var tree) ≡ true → has_name x (loop_variables directive var tree) ≡ false
 not_varied w u inner number directive var tree sound x e = by_test (has_name x (loop_variables directive var tree)) refl
   where
     by_test : (b : Bool) → has_name x (loop_variables directive var tree) ≡ b → b ≡ false
     by_test true f = let k : true ≡ false = sym e ∙ sound.apart x f in cc
     by_test false f = refl
 
-pub begun_private : (w : World) (u inner : Use) (number : ℕ) (directive : Directive) (var : List ℕ) (tree : Statements) → SoundRounds w u inner number directive var tree → (xs : Settings) → Varies xs directive var tree → (s : Cells) (p : ℕ) → length s ≡ length w.site.keys → p < length w.site.keys
+pub begun_private : (w : World) (u inner : Use) (number : ℕ) (directive : Directive) (var : List ℕ) (tree : Statements) → RoundFacts w u inner number directive var tree → (xs : Settings) → Varies xs directive var tree → (s : Cells) (p : ℕ) → length s ≡ length w.site.keys → p < length w.site.keys
     → has_name (name_at w.site.keys p) (privates_of w directive var tree) ≡ true → content (begun w directive var tree xs s) p ≡ None
 begun_private w u inner number directive var tree sound xs e s p size there f =
     (variables_set w xs (with_all_unset w.site (privates_of w directive var tree) s) empty [] [] (own_variables w u inner number directive var tree sound xs e)).same p (ap (has_name (name_at w.site.keys p)) e ∙ not_varied w u inner number directive var tree sound (name_at w.site.keys p) f)
     ∙ unset_here w (privates_of w directive var tree) s p sound.privates (omega arith) f
 
-pub begun_fit : (w : World) (u inner : Use) (number : ℕ) (directive : Directive) (var : List ℕ) (tree : Statements) → (sound : SoundRounds w u inner number directive var tree) → (xs : Settings) → Varies xs directive var tree → AllIndex xs → (s : Cells) → Fit w u s
+pub begun_fit : (w : World) (u inner : Use) (number : ℕ) (directive : Directive) (var : List ℕ) (tree : Statements) → (sound : RoundFacts w u inner number directive var tree) → (xs : Settings) → Varies xs directive var tree → AllIndex xs → (s : Cells) → Fit w u s
     → Fit (in_iteration w number directive var tree) inner (begun w directive var tree xs s)
 begun_fit w u inner number directive var tree sound xs varies ix s fit =
     let names = privates_of w directive var tree in
@@ -197,7 +199,7 @@ abbrev pub UndoneBody : World → Use → Statements → Cells → Type 0
 UndoneBody w u tree s = (ts : Log) (s2 : Cells) (t : Tape) → Fit w u s → Within w.active (run_all tree w.site s).log ts → (run_all tree w.site s).out ≡ Ok s2 → Undoes w u ts (back_all tree w) t (tape_after (run_all tree w.site s).log t) s s2
 
 -- the reverse of an iteration, from its tape
-pub iteration_step : (w : World) (u inner : Use) (number : ℕ) (directive : Directive) (var : List ℕ) (tree : Statements) → SoundRounds w u inner number directive var tree → (heads : Heads) (tapes : Tapes) (m : Local) (k : ℕ) (s s2 : Cells) → Varies (settings heads k) directive var tree → AllIndex (settings heads k)
+pub iteration_step : (w : World) (u inner : Use) (number : ℕ) (directive : Directive) (var : List ℕ) (tree : Statements) → RoundFacts w u inner number directive var tree → (heads : Heads) (tapes : Tapes) (m : Local) (k : ℕ) (s s2 : Cells) → Varies (settings heads k) directive var tree → AllIndex (settings heads k)
     → KeptBody (in_iteration w number directive var tree) inner (iteration_body directive tree) → UndoneBody (in_iteration w number directive var tree) inner (iteration_body directive tree) (begun w directive var tree (settings heads k) s) → Fit w u s
     → (iteration_run w directive var tree heads k s).out ≡ Ok s2 → tape_at tapes k ≡ tape_after (inner_of (iteration_run w directive var tree heads k s).log) empty
     → Step (in_iteration w number directive var tree) u (inner_of (iteration_run w directive var tree heads k s).log) (iteration_tree w number directive var tree heads tapes (back_all (iteration_body directive tree)) m k) m.values m.adjoints s s2
@@ -274,7 +276,7 @@ iteration_step w u inner number directive var tree sound heads tapes m k s s2 va
     cl = cleared w names (tape_after body-log empty) re.vs1 bs sound.privates
 
     local-is : iteration_local w directive var tree heads tapes m k ≡ local n (tape_after body-log empty) re.vs1 cl.bs1
-    local-is = ap (λ (x : Local). clear_privates w names (pop_privates w tree names x)) set-is ∙ (ap (clear_privates w names) re.out ∙ cl.out)
+    local-is = ap (λ (x : Local). with_clear_privates w names (after_private_pops w tree names x)) set-is ∙ (ap (with_clear_privates w names) re.out ∙ cl.out)
 
     wide2 : length re.vs1 ≡ length w.site.keys
     wide2 = re.long ∙ (va.long ∙ wide)

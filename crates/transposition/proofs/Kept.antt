@@ -24,7 +24,8 @@ use Rattle.meaning.specs.Expressions.{content}
 use Rattle.meaning.specs.Statements.{plain_assignment, terms_of, incremented_dual, increment, assignment_by}
 use Rattle.meaning.specs.Adjoints.{tangent_of}
 use Rattle.transposition.specs.Worlds.{World, name_at}
-use Rattle.transposition.specs.Law.{Use, Fit, HasKind}
+use Rattle.transposition.specs.Law.{Use, Fit}
+use Rattle.meaning.specs.Fitting.{HasKind}
 use Rattle.transposition.specs.Sound.{SoundStore, SoundAssigned, UnmovedTerms}
 use Rattle.transposition.proofs.Keys.{stands}
 use Rattle.transposition.proofs.Places.{content_set_same, content_set_other}

@@ -1,6 +1,6 @@
 -- The name of a place that was found for a name is that name.
 use Rattle.std.proofs.Common.{◌≡◌, ℕ, suc, ◌<◌, length, Bool, true, false, cond, List, [], ◌∷◌, Option, Some, None, refl, sym, subst, arith, ℤ}
-use Rattle.std.specs.Prelude.{option_map, bytes_eq}
+use Rattle.std.specs.Prelude.{option_map, bytes_eq, slice_get}
 use Rattle.std.proofs.lemmas.Slice.Eq.{bytes_eq-Decides}
 use Rattle.std.proofs.lemmas.Bool.{and_parts}
 use Rattle.store_core.specs.Keys.{same_key, same_subscripts, first_at}
@@ -28,3 +28,10 @@ stands_by k keys x ss p false t f e = later k keys x p (first_at (same_key (x, s
 pub stands : (keys : List Key) (x : List ℕ) (ss : List ℤ) (p : ℕ) → first_at (same_key (x, ss)) keys ≡ Some p → Stands keys x p
 stands [] x ss p e = cc
 stands (k ∷ keys) x ss p e = stands_by k keys x ss p (same_key (x, ss) k) refl (λ q f. stands keys x ss q f) e
+
+pub name_later : (k : Key) (keys : List Key) (p : ℕ) → name_at (k ∷ keys) (suc p) ≡ name_at keys p
+name_later k keys p = by_key (slice_get keys p) refl
+  where
+    by_key : (o : Option Key) → slice_get keys p ≡ o → name_at (k ∷ keys) (suc p) ≡ name_at keys p
+    by_key None e = rw e refl
+    by_key (Some x) e = rw e refl

@@ -28,9 +28,17 @@ pub mod Parallel
 pub mod Whole
 pub mod Transposed
 mod Premises
-mod Squares
+pub mod Squares
 pub mod Words
 pub mod Collections
 pub mod PlainLogs
 pub mod Passing
 pub mod Orderly
+pub mod Meeting
+mod WithPrivate
+mod WithNested
+mod WithCollapsed
+pub mod WholePrograms
+pub mod RoundFacts
+pub mod Fits
+pub mod WellKinded

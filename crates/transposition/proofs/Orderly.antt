@@ -14,6 +14,7 @@ use Rattle.transposition.specs.Worlds.{World, Local, in_iteration}
 use Rattle.transposition.specs.Back.{below_bounds, heads_on, iteration_tree, loop_iterations, loop_heads, back_all, back_inner}
 use Rattle.transposition.specs.Law.{local, flat}
 use Rattle.transposition.specs.Discipline.{IterationsAreDisciplined}
+use Rattle.transposition.proofs.RoundFacts.{round_facts}
 use Rattle.transposition.proofs.Heads.{HeadsRun, heads_run, below_is, heads_is}
 use Rattle.transposition.proofs.Nesting.{body_back}
 use Rattle.transposition.proofs.Iterations.{iteration_run}
@@ -47,7 +48,7 @@ orderly_loop w u line number directive var first last step body s s2 t vs bs fit
     full = loop_tape p.heads tapes t
 
     u0 : ParallelUndone w u (turns (iterations p.heads) f s).log number directive var body p.heads t tapes s s2 vs bs
-    u0 = parallel_undone w u sound.0 (turns (iterations p.heads) f s).log number directive var body sound.1
+    u0 = parallel_undone w u sound.0 (turns (iterations p.heads) f s).log number directive var body (round_facts w u sound.0 number directive var body sound.5 sound.1)
         (kept_body (is_nest directive body) body v sound.0 sound.4 (λ q s s2 fit h. kept_all body v sound.0 s s2 fit q h) (λ q s s2 fit h. kept_inner body v sound.0 s s2 fit q h))
         (sound_undone (is_nest directive body) body v sound.0 sound.4
         (λ q s ts s2 t fit ins h. undone_all body v sound.0 ts s s2 t fit q (flat_calm body v s sound.5) ins h)

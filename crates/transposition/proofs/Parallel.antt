@@ -14,9 +14,10 @@ use Rattle.meaning.specs.Logs.{Log, within, iteration}
 use Rattle.meaning.specs.Sites.{Cells}
 use Rattle.meaning.specs.Statements.{Run, turns, Heads, iterations, words_of_all}
 use Rattle.fl_types.specs.Nests.{is_nest, further_head, iteration_body}
+use Rattle.transposition.proofs.RoundFacts.{RoundFacts}
 use Rattle.transposition.proofs.Heads.{AllCounted, head_names, below_is, heads_is, settings, AllIndex, names_set, all_index}
 use Rattle.transposition.proofs.Nesting.{unwritten}
-use Rattle.transposition.specs.Tapes.{Tape, Tapes, none, more, many, empty, top_tapes, both_tapes, tape_count, tape_at, tape_after, iteration_tapes}
+use Rattle.transposition.specs.Tapes.{Tape, Tapes, none, more, many, empty, top_tapes, both_tapes, tape_at, tape_after, iteration_tapes}
 use Rattle.transposition.specs.Worlds.{World, Local, in_iteration}
 use Rattle.transposition.specs.Back.{variables_of, loop_variables, heads_on, below_bounds, iteration_tree, parallel_back, back_all, after_pop}
 use Rattle.transposition.specs.Law.{Use, local, flat, Like, tangents, Fit, CoverAll, Ends, Calm, AreWords}
@@ -26,7 +27,7 @@ use Rattle.transposition.proofs.Kept.{Keeps}
 use Rattle.transposition.proofs.Rounds.{Round, Step, Undo, disciplined, rounds_undone, below_by}
 use Rattle.transposition.proofs.Iterations.{KeptBody, UndoneBody, Varies, iteration_run, iter_run, begun, begun_other, begun_fit, iteration_step}
 use Rattle.transposition.specs.Calms.{cells_of, state_at, inner_of, log_at, iteration_log}
-use Rattle.transposition.specs.Sound.{SoundRounds, writes_in, privates_of}
+use Rattle.transposition.specs.Sound.{writes_in, privates_of}
 use Rattle.transposition.specs.Worlds.{name_at}
 use Rattle.fl_types.specs.Sharing.{has_name}
 use Rattle.std.specs.Prelude.{bytes_eq, ◌||◌}
@@ -47,6 +48,10 @@ chained (suc n) f s s2 h i k =
     by_last early false e q = early (below_by i n k (λ g. (let m : true ≡ false = sym (eq-eqb i n g) ∙ e in cc)))
 
 -- ---- the tapes of the iterations
+
+abbrev tape_count : Tapes → ℕ
+tape_count none = 0
+tape_count (more t ts) = suc (tape_count ts)
 
 size_joined : (xs : Tapes) (t : Tape) → tape_count (both_tapes xs (more t none)) ≡ tape_count xs + 1
 size_joined none t = refl
@@ -106,7 +111,7 @@ unlisted : (a b : Bool) → (a ≡ true → b ≡ true) → b ≡ false → a �
 unlisted true b f e = let k : true ≡ false = sym (f refl) ∙ e in cc
 unlisted false b f e = refl
 
-pub iteration_kept : (w : World) (u inner : Use) (number : ℕ) (directive : Directive) (var : List ℕ) (tree : Statements) → SoundRounds w u inner number directive var tree → KeptBody (in_iteration w number directive var tree) inner (iteration_body directive tree)
+pub iteration_kept : (w : World) (u inner : Use) (number : ℕ) (directive : Directive) (var : List ℕ) (tree : Statements) → RoundFacts w u inner number directive var tree → KeptBody (in_iteration w number directive var tree) inner (iteration_body directive tree)
     → (heads : Heads) (k : ℕ) (s s2 : Cells) → Varies (settings heads k) directive var tree → AllIndex (settings heads k) → Fit w u s
     → (iteration_run w directive var tree heads k s).out ≡ Ok s2 → Keeps w u (λ y. bytes_eq y var || (has_name y directive.privates || writes_in y tree)) s s2
 iteration_kept w u inner number directive var tree sound keeping heads k s s2 varies ix fit h =
@@ -126,7 +131,7 @@ iteration_kept w u inner number directive var tree sound keeping heads k s s2 va
           (or_neither (bytes_eq y var) (has_name y (variables_of (further_head directive tree))) a d.other);
     }
 
-states_fit : (w : World) (u inner : Use) (number : ℕ) (directive : Directive) (var : List ℕ) (tree : Statements) → SoundRounds w u inner number directive var tree → KeptBody (in_iteration w number directive var tree) inner (iteration_body directive tree)
+states_fit : (w : World) (u inner : Use) (number : ℕ) (directive : Directive) (var : List ℕ) (tree : Statements) → RoundFacts w u inner number directive var tree → KeptBody (in_iteration w number directive var tree) inner (iteration_body directive tree)
     → (heads : Heads) → head_names heads ≡ loop_variables directive var tree → AllCounted heads → (s s2 : Cells) → Fit w u s → (n : ℕ) → n ≤ iterations heads
     → (turns (iterations heads) (iteration_run w directive var tree heads) s).out ≡ Ok s2 → Fit w u (state_at (iteration_run w directive var tree heads) s n)
 states_fit w u inner number directive var tree sound keeping heads names counted s s2 fit zero m h = fit
@@ -168,7 +173,7 @@ pub record ParallelUndone (w : World) (u : Use) (ts : Log) (number : ℕ) (direc
   -- the iterations, each alone from the cells at the loop's entry
   pub orderly : IsDisciplined (ops_alone (iteration_tree w number directive var tree heads tapes (back_all (iteration_body directive tree)) (local w.shared (many tapes tape) vs bs)) (flat w.shared vs bs)) (iterations heads)
 
-pub parallel_undone : (w : World) (u inner : Use) (ts : Log) (number : ℕ) (directive : Directive) (var : List ℕ) (tree : Statements) → SoundRounds w u inner number directive var tree → KeptBody (in_iteration w number directive var tree) inner (iteration_body directive tree)
+pub parallel_undone : (w : World) (u inner : Use) (ts : Log) (number : ℕ) (directive : Directive) (var : List ℕ) (tree : Statements) → RoundFacts w u inner number directive var tree → KeptBody (in_iteration w number directive var tree) inner (iteration_body directive tree)
     → ((s : Cells) → UndoneBody (in_iteration w number directive var tree) inner (iteration_body directive tree) s)
     → (heads : Heads) → head_names heads ≡ loop_variables directive var tree → AllCounted heads
     → (s s2 : Cells) → Fit w u s → (turns (iterations heads) (iteration_run w directive var tree heads) s).out ≡ Ok s2

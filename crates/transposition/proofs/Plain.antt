@@ -24,10 +24,10 @@ use Rattle.meaning.specs.Expressions.{content, value_of, values_of}
 use Rattle.meaning.specs.Statements.{store_at, put, plain_assignment}
 use Rattle.meaning.specs.Adjoints.{tangent_of}
 use Rattle.transposition.specs.Tapes.{Tape, word, tape_after, top}
-use Rattle.transposition.specs.Worlds.{World, Local, adjoint_load, set_adjoint, set_value, is_one_step, is_reduction, name_at}
+use Rattle.transposition.specs.Worlds.{World, Local, adjoint_load, adjoint_store, value_store, is_one_step, is_reduction, name_at}
 use Rattle.transposition.specs.Reads.{place_tree}
-use Rattle.transposition.specs.Spread.{occurrences, spread, with_sign}
-use Rattle.transposition.specs.Back.{after_pop, adjoint_tree, take_adjoint, restore_value, plain_back}
+use Rattle.transposition.specs.Spread.{occurrences, increments, with_sign}
+use Rattle.transposition.specs.Back.{after_pop, adjoint_tree, adjoint_move, value_restoration, plain_back}
 use Rattle.transposition.specs.Law.{Use, flat, local, Like, Fit, tangents, HasTouch, HasDifferentiatedRead, Within, CoverAll, Ends, Undoes}
 use Rattle.transposition.specs.Needs.{Needs, NeedsAll}
 use Rattle.transposition.specs.Sound.{SoundTarget, SoundPlain}
@@ -205,7 +205,7 @@ adjoint_got w u s vs bs t ts h p q n k covered off =
 record Moved (w : World) (ts : Log) (p : Designator) (q : ℕ) (t : Tape) (vs bs : List ℕ) : Type 0 where
   pub ops : List Op
   pub cover : CoverAll w ts ops
-  pub ran : (k : ℕ → Local → Tree Local) → play (take_adjoint w p (local w.shared t vs bs) k) (flat w.shared vs bs) ≡ before ops (play (k (slice_index bs q) (local w.shared t vs (slice_set bs q 0))) (flat w.shared vs (slice_set bs q 0)))
+  pub ran : (k : ℕ → Local → Tree Local) → play (adjoint_move w p (local w.shared t vs bs) k) (flat w.shared vs bs) ≡ before ops (play (k (slice_index bs q) (local w.shared t vs (slice_set bs q 0))) (flat w.shared vs (slice_set bs q 0)))
 
 appended : {A : Type 0} (r : Played A) (os us : List Op) → before os (before us r) ≡ before (os ++ us) r
 appended r os us = ap (λ (l : List Op). record { out = r.out; cells = r.cells; ops = l }) (sym (append_assoc os us r.ops))
@@ -216,9 +216,9 @@ moved_ran w u s vs bs t ts h p q n k covered off = record {
   ops = (play (adjoint_tree w p l) c).ops ++ ((play (place_tree p w l) c).ops ++ making w.shared q (Store (w.shared + q) 0));
   cover = cover_both w ts _ _ (one.cover (silent ts)) (cover_both w ts _ _ (two.cover (silent ts)) (by_test (nat_lt q w.shared) refl));
   ran = λ f.
-      got_then w ts silence (adjoint_tree w p l) (λ a. and_then (place_tree p w l) (λ j. and_then (set_adjoint w j 0 l) (f a))) c (slice_index bs q) one
-      ∙ (ap (before (play (adjoint_tree w p l) c).ops) (got_then w ts silence (place_tree p w l) (λ j. and_then (set_adjoint w j 0 l) (f (slice_index bs q))) c q two
-      ∙ ap (before (play (place_tree p w l) c).ops) (bind (set_adjoint w q 0 l) (f (slice_index bs q)) c ∙ (rw (set_adjoint_played w t q 0 vs bs (room w u s vs bs h)) refl)))
+      got_then w ts silence (adjoint_tree w p l) (λ a. and_then (place_tree p w l) (λ j. and_then (adjoint_store w j 0 l) (f a))) c (slice_index bs q) one
+      ∙ (ap (before (play (adjoint_tree w p l) c).ops) (got_then w ts silence (place_tree p w l) (λ j. and_then (adjoint_store w j 0 l) (f (slice_index bs q))) c q two
+      ∙ ap (before (play (place_tree p w l) c).ops) (bind (adjoint_store w q 0 l) (f (slice_index bs q)) c ∙ (rw (set_adjoint_played w t q 0 vs bs (room w u s vs bs h)) refl)))
       ∙ (ap (before (play (adjoint_tree w p l) c).ops) (appended (play (f (slice_index bs q) (local w.shared t vs (slice_set bs q 0))) (flat w.shared vs (slice_set bs q 0))) (play (place_tree p w l) c).ops (making w.shared q (Store (w.shared + q) 0)))
       ∙ appended (play (f (slice_index bs q) (local w.shared t vs (slice_set bs q 0))) (flat w.shared vs (slice_set bs q 0))) (play (adjoint_tree w p l) c).ops ((play (place_tree p w l) c).ops ++ making w.shared q (Store (w.shared + q) 0))));
 }
@@ -252,7 +252,7 @@ record Restored (w : World) (u : Use) (ts : Log) (r : Played Local) (t : Tape) (
 
 restored_ran : (w : World) (u : Use) (s : Cells) (x : Option Value) (vs bs : List ℕ) (t : Tape) (ts : Log) → Fit w u s → (p : Designator) (q : ℕ) → SoundTarget w u p → Placed w s ts p q
     → (w.site.accessed p.name ≡ true → HasTouch Write q ts) → Like u w.site.keys vs (slice_set s q x) → length vs ≡ length w.site.keys → length bs ≡ length w.site.keys
-    → Restored w u ts (play (restore_value w p (local w.shared (cond (w.site.pushed p.name) (word (word_of (content s q)) t) t) vs bs)) (flat w.shared vs bs)) t s bs
+    → Restored w u ts (play (value_restoration w p (local w.shared (cond (w.site.pushed p.name) (word (word_of (content s q)) t) t) vs bs)) (flat w.shared vs bs)) t s bs
 restored_ran w u s x vs bs t ts fit p q sound k covered l wide long = by_push (w.site.pushed p.name) refl
   where
     c : List ℕ
@@ -278,10 +278,10 @@ restored_ran w u s x vs bs t ts fit p q sound k covered l wide long = by_push (w
         by_test false f = tt
 
     by_push : (b : Bool) → w.site.pushed p.name ≡ b
-        → Restored w u ts (play (cond b (and_then (place_tree p w (local w.shared (cond b tape t) vs bs)) (λ q. set_value w q (top (cond b tape t)) (after_pop (local w.shared (cond b tape t) vs bs)))) (done (local w.shared (cond b tape t) vs bs))) c) t s bs
+        → Restored w u ts (play (cond b (and_then (place_tree p w (local w.shared (cond b tape t) vs bs)) (λ q. value_store w q (top (cond b tape t)) (after_pop (local w.shared (cond b tape t) vs bs)))) (done (local w.shared (cond b tape t) vs bs))) c) t s bs
     by_push true e =
         let one : Got w ts c (play (place_tree p w (local w.shared tape vs bs)) c) q silence = place_got w (without p.name u) s vs bs tape ts sc p q (needs_all_without u p.name p.subscripts (sound.undone e) sound.free) k in
-        rw (got_then w ts silence (place_tree p w (local w.shared tape vs bs)) (λ q. set_value w q old (after_pop (local w.shared tape vs bs))) c q one)
+        rw (got_then w ts silence (place_tree p w (local w.shared tape vs bs)) (λ q. value_store w q old (after_pop (local w.shared tape vs bs))) c q one)
         (rw (set_value_played w t q old vs bs (room w (without p.name u) s vs bs sc)) (record {
           vs1 = slice_set vs q old;
           out = refl;
@@ -376,21 +376,21 @@ plain_undone w u ts p e sound s t fit ins s2 h vs bs l wide long small = rw (pla
     live_is = ap u.live named ∙ sound.target.live
 
     by_active : (b : Bool) → w.active p.name ≡ b
-        → Ends w u ts (play (cond b (take_adjoint w p m (λ a y. and_then (restore_value w p y) (spread w a (occurrences w.active e false [])))) (restore_value w p m)) c) t s s2 bs
+        → Ends w u ts (play (cond b (adjoint_move w p m (λ a y. and_then (value_restoration w p y) (increments w a (occurrences w.active e false [])))) (value_restoration w p m)) c) t s s2 bs
     by_active true on =
         let a : ℕ = slice_index bs k.q in
         let bs1 : List ℕ = slice_set bs k.q 0 in
         let long1 : length bs1 ≡ length w.site.keys = length-set bs k.q 0 ∙ long in
         let sc = scene_without w u s p.name k.q x vs bs fit named like2 wide long in
         let mv : Moved w ts p k.q tape vs bs = moved_ran w (without p.name u) s vs bs tape ts sc p k.q (needs_all_without u p.name p.subscripts (sound.target.subscripts on) sound.target.free) at covered (sound.target.summed on) in
-        let re : Restored w u ts (play (restore_value w p (local w.shared tape vs bs1)) (flat w.shared vs bs1)) t s bs1 = restored_ran w u s x vs bs1 t ts fit p k.q sound.target at covered like2 wide long1 in
+        let re : Restored w u ts (play (value_restoration w p (local w.shared tape vs bs1)) (flat w.shared vs bs1)) t s bs1 = restored_ran w u s x vs bs1 t ts fit p k.q sound.target at covered like2 wide long1 in
         let sc1 : Scene w u s re.vs1 bs1 = record { fit = fit; like = re.like; wide = re.wide; long = long1 } in
         let su : Sums w s ts a (occurrences w.active e false []) (with_sign false a * moves k.v) = expression_sums w u s ts fit e false [] a a refl (told.right on) (sound.kinds on) (sound.quiet on) k.v k.out in
         let sp = spreads w u s re.vs1 bs1 t ts a sc1 (occurrences w.active e false []) su.z (sound.amounts on) su.sum (words_set bs k.q 0 zero_word small) in
         let ds : List ℕ = tangents u w.site.keys s in
         let after-store : tangents u w.site.keys s2 ≡ slice_set ds k.q (moves k.v) = ap (tangents u w.site.keys) k.cells ∙ (tangents_on w u s k.q x (live_is ∙ on) ∙ ap (slice_set ds k.q) (ring_tangent w.site p.name k.v (sound.target.ring on))) in
-        rw (mv.ran (λ a y. and_then (restore_value w p y) (spread w a (occurrences w.active e false []))))
-        (rw (bind (restore_value w p (local w.shared tape vs bs1)) (spread w a (occurrences w.active e false [])) (flat w.shared vs bs1))
+        rw (mv.ran (λ a y. and_then (value_restoration w p y) (increments w a (occurrences w.active e false []))))
+        (rw (bind (value_restoration w p (local w.shared tape vs bs1)) (increments w a (occurrences w.active e false [])) (flat w.shared vs bs1))
         (rw (re.out, re.cells) (record {
           vs2 = re.vs1;
           bs2 = sp.bs2;
@@ -404,7 +404,7 @@ plain_undone w u ts p e sound s t fit ins s2 h vs bs l wide long small = rw (pla
           cover = cover_both w ts _ _ mv.cover (cover_both w ts _ _ re.cover sp.cover);
         })))
     by_active false on =
-        let re : Restored w u ts (play (restore_value w p m) c) t s bs = restored_ran w u s x vs bs t ts fit p k.q sound.target at covered like2 wide long in
+        let re : Restored w u ts (play (value_restoration w p m) c) t s bs = restored_ran w u s x vs bs t ts fit p k.q sound.target at covered like2 wide long in
         record {
           vs2 = re.vs1;
           bs2 = bs;

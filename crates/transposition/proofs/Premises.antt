@@ -1,19 +1,17 @@
 -- The premises of the law can be met: y = x*x.
-use Rattle.std.proofs.Common.{◌≡◌, ℕ, zero, suc, List, [], ◌∷◌, refl, ap, true, Some, arith}
+use Rattle.std.proofs.Common.{ℕ, List, [], ◌∷◌, refl, true, arith}
 use Rattle.std.specs.Prelude.{codes}
 use Rattle.fl_ast.specs.declared.kind.Kind.TheVariants as kind
 use Rattle.fl_ast.specs.Tree.{Statements}
 use Rattle.fl_types.specs.declared.choice.Choice.TheVariants.{Shared}
-use Rattle.meaning.specs.declared.value.Value.{Value}
-use Rattle.meaning.specs.declared.value.Value.TheVariants.{Ring}
-use Rattle.meaning.specs.Sites.{Cells, Site, opening_site, kind_of, word_of}
-use Rattle.meaning.specs.Expressions.{content}
-use Rattle.meaning.specs.Adjoints.{cells_along, unit}
+use Rattle.meaning.specs.Sites.{Cells, Site, opening_site}
 use Rattle.meaning.proofs.Small.{declared, scalar, word, name, to, ◌times◌, only, set as set_to, all_pushed}
-use Rattle.transposition.specs.Worlds.{World, name_at}
-use Rattle.transposition.specs.Law.{Use, Like, HasKind, Fit, AreWords}
+use Rattle.meaning.specs.Fitting.{Fits}
+use Rattle.transposition.specs.Worlds.{World}
+use Rattle.transposition.specs.Law.{Use, Like, AreWords}
 use Rattle.transposition.specs.Sound.{SoundAll}
 use Rattle.transposition.specs.Answer.{Answer}
+use Rattle.transposition.proofs.Meeting.{held_fits, held_words}
 use Rattle.transposition.proofs.Words.{all_small}
 use Rattle.transposition.proofs.Transposed.{answered}
 
@@ -52,33 +50,14 @@ sound = (
   tt,
 )
 
-fit : Fit world names (cells_along (unit 0) cells)
-fit = record { long = refl; room = omega arith; kinds = kinds; still = λ p h. cc }
-  where
-    kinds : (p : ℕ) (v : Value) → content (cells_along (unit 0) cells) p ≡ Some v → HasKind (kind_of site (name_at site.keys p)) v
-    kinds zero v e = of (Ring (record { value = 5; tangent = 1 })) v (let f : Ring (record { value = 5; tangent = 1 }) ≡ v = cc in f) (omega arith)
-      where
-        of : (a b : Value) → a ≡ b → HasKind kind.Ring a → HasKind kind.Ring b
-        of a b e h = rw (← e) h
-    kinds (suc zero) v e = of (Ring (record { value = 0; tangent = 0 })) v (let f : Ring (record { value = 0; tangent = 0 }) ≡ v = cc in f) (omega arith)
-      where
-        of : (a b : Value) → a ≡ b → HasKind kind.Ring a → HasKind kind.Ring b
-        of a b e h = rw (← e) h
-    kinds (suc (suc p)) v e = cc
+fits : Fits site cells
+fits = held_fits site site.keys cells refl
 
 like : Like names site.keys (5 ∷ 25 ∷ []) (word 5 ∷ word 25 ∷ [])
-like zero v e n = let f : Some (Ring (record { value = 5; tangent = 0 })) ≡ Some v = e in word_eq (Ring (record { value = 5; tangent = 0 })) v f
-  where
-    word_eq : (a b : Value) → Some a ≡ Some b → word_of (Some a) ≡ word_of (Some b)
-    word_eq a b e = ap word_of e
-like (suc zero) v e n = let f : Some (Ring (record { value = 25; tangent = 0 })) ≡ Some v = e in word_eq (Ring (record { value = 25; tangent = 0 })) v f
-  where
-    word_eq : (a b : Value) → Some a ≡ Some b → word_of (Some a) ≡ word_of (Some b)
-    word_eq a b e = ap word_of e
-like (suc (suc p)) v e n = cc
+like = held_words names site.keys (5 ∷ 25 ∷ []) (word 5 ∷ word 25 ∷ []) refl
 
 small : AreWords (0 ∷ 1 ∷ [])
 small = all_small (0 ∷ 1 ∷ []) refl
 
 met : Answer world names square cells (5 ∷ 25 ∷ []) (0 ∷ 1 ∷ []) 0
-met = answered world names square cells (word 5 ∷ word 25 ∷ []) (5 ∷ 25 ∷ []) (0 ∷ 1 ∷ []) 0 (record { value = 5; tangent = 0 }) sound (tt, λ s h. tt) fit refl like refl refl small refl refl (λ p h k. cc)
+met = answered world names square cells (word 5 ∷ word 25 ∷ []) (5 ∷ 25 ∷ []) (0 ∷ 1 ∷ []) 0 (record { value = 5; tangent = 0 }) sound (tt, λ s h. tt) fits (omega arith) refl refl like refl refl small refl refl (λ p h k. cc)

@@ -15,7 +15,7 @@ use Rattle.meaning.specs.Adjoints.{tangent_of}
 use Rattle.transposition.specs.Tapes.{Tape, word, tape_after}
 use Rattle.transposition.specs.Worlds.{World, with_value, with_adjoint, name_at}
 use Rattle.transposition.specs.Reads.{place_or_zero}
-use Rattle.transposition.specs.Back.{pop_privates, clear_privates}
+use Rattle.transposition.specs.Back.{after_private_pops, with_clear_privates}
 use Rattle.transposition.specs.Law.{Use, local, tangents}
 use Rattle.transposition.specs.Sound.{AllOwn}
 use Rattle.meaning.specs.Sites.{with_tangent}
@@ -85,7 +85,7 @@ unset_here w (x ∷ xs) s p h l e = by_name (bytes_eq (name_at w.site.keys p) x)
 
 pub record Cleared (w : World) (xs : List (List ℕ)) (t : Tape) (vs bs : List ℕ) : Type 0 where
   pub bs1 : List ℕ
-  pub out : clear_privates w xs (local w.shared t vs bs) ≡ local w.shared t vs bs1
+  pub out : with_clear_privates w xs (local w.shared t vs bs) ≡ local w.shared t vs bs1
   pub cells : take w.shared bs1 ≡ take w.shared bs
   pub long : length bs1 ≡ length bs
   pub here : (p : ℕ) → has_name (name_at w.site.keys p) xs ≡ true → slice_index bs1 p ≡ 0
@@ -107,7 +107,7 @@ cleared w (x ∷ xs) t vs bs h =
     ap (λ (o : Option ℕ). with_adjoint w (place_or_zero o) 0 (local w.shared t vs bs)) h.0.place ∙ ap (λ (l : List ℕ). record { tape = t; values = drop w.shared vs; adjoints = l }) (set_own w.shared q 0 bs h.0.own) in
     record {
       bs1 = k.bs1;
-      out = ap (clear_privates w xs) first ∙ k.out;
+      out = ap (with_clear_privates w xs) first ∙ k.out;
       cells = k.cells ∙ sym (cells_kept w.shared q 0 bs h.0.own);
       long = k.long ∙ length-set bs q 0;
       here = λ p e. here_by k.bs1 p e (bytes_eq (name_at w.site.keys p) x) refl k.stays k.here;
@@ -129,7 +129,7 @@ cleared w (x ∷ xs) t vs bs h =
 
 pub record Refilled (w : World) (tree : Statements) (xs : List (List ℕ)) (s : Cells) (t : Tape) (vs bs : List ℕ) : Type 0 where
   pub vs1 : List ℕ
-  pub out : pop_privates w tree xs (local w.shared (tape_after (private_words w.site tree xs s) t) vs bs) ≡ local w.shared t vs1 bs
+  pub out : after_private_pops w tree xs (local w.shared (tape_after (private_words w.site tree xs s) t) vs bs) ≡ local w.shared t vs1 bs
   pub cells : take w.shared vs1 ≡ take w.shared vs
   pub long : length vs1 ≡ length vs
   pub here : (p : ℕ) → p < length vs → has_name (name_at w.site.keys p) xs ≡ true → assigns_in (name_at w.site.keys p) tree ≡ true → w.site.pushed (name_at w.site.keys p) ≡ true → slice_index vs1 p ≡ word_of (content s p)

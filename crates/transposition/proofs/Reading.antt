@@ -18,7 +18,8 @@ use Rattle.meaning.specs.Expressions.{content, read_cell, read_place, read, valu
 use Rattle.transposition.specs.Tapes.{Tape}
 use Rattle.transposition.specs.Worlds.{World, value_load, name_at}
 use Rattle.transposition.specs.Reads.{value_from, value_or_zero, place_or_zero, read_at, value_tree, values_tree, holds_tree, place_tree}
-use Rattle.transposition.specs.Law.{Use, flat, local, Like, HasKind, Fit, HasTouch, Cover, CoverAt, CoverAll}
+use Rattle.transposition.specs.Law.{Use, flat, local, Like, Fit, HasTouch, Cover, CoverAt, CoverAll}
+use Rattle.meaning.specs.Fitting.{HasKind}
 use Rattle.transposition.specs.Needs.{Needs, NeedsAll, NeedsCondition}
 use Rattle.transposition.proofs.Split.{before, played, reading, value_at_played, less, is_not_less}
 use Rattle.transposition.proofs.Flats.{flat_value, flat_values, decoded, Maps, wholes_flat, literal_maps, binary_maps, negated_maps, power_maps, call_maps, relates_flat}

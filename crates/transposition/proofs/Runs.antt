@@ -13,7 +13,8 @@ use Rattle.meaning.specs.Sites.{Cells, Site, kind_of}
 use Rattle.meaning.specs.Expressions.{value_of}
 use Rattle.meaning.specs.Statements.{Run, with_log, turns_by, step_value, turns_of, value_at, set_at, turns, one_turn}
 use Rattle.transposition.specs.Worlds.{World, in_turn}
-use Rattle.transposition.specs.Law.{Use, Fit, HasKind}
+use Rattle.transposition.specs.Law.{Use, Fit}
+use Rattle.meaning.specs.Fitting.{HasKind}
 use Rattle.transposition.specs.Sound.{OptionLiterals, Literals, SoundVariable, scope_with}
 use Rattle.transposition.proofs.Keys.{stands}
 use Rattle.transposition.proofs.Bounds.{bound}

@@ -23,7 +23,8 @@ use Rattle.meaning.specs.Sites.{Cells, place_of, kind_of}
 use Rattle.meaning.specs.Expressions.{read, value_of, values_of}
 use Rattle.transposition.specs.Worlds.{World, name_at}
 use Rattle.meaning.specs.Values.{whole_numbers}
-use Rattle.transposition.specs.Law.{Use, Fit, HasKind}
+use Rattle.transposition.specs.Law.{Use, Fit}
+use Rattle.meaning.specs.Fitting.{HasKind}
 use Rattle.transposition.specs.Sound.{Literals, LiteralsAll, Whole, WholeAll}
 use Rattle.transposition.proofs.Keys.{stands}
 use Rattle.transposition.proofs.Bounds.{bound, read_inverted, listed}

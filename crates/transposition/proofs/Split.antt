@@ -9,7 +9,7 @@ use Rattle.operations.specs.declared.op.Op.{Op}
 use Rattle.operations.specs.declared.op.Op.TheVariants.{Load, Store, Bump, Add}
 use Rattle.operations.specs.Tree.{done, loads, does, Played, play}
 use Rattle.transposition.specs.Tapes.{Tape}
-use Rattle.transposition.specs.Worlds.{World, value_load, adjoint_load, with_value, with_adjoint, set_value, set_adjoint, addition, is_one_step, increment_adjoint, increment_value}
+use Rattle.transposition.specs.Worlds.{World, value_load, adjoint_load, with_value, with_adjoint, value_store, adjoint_store, addition, is_one_step, adjoint_increment, value_increment}
 use Rattle.transposition.specs.Law.{flat, local}
 
 pub less : (p n : ℕ) → nat_lt p n ≡ true → p < n
@@ -93,7 +93,7 @@ abbrev pub making : (n p : ℕ) → Op → List Op
 making n p o = cond (nat_lt p n) (o ∷ []) []
 
 pub set_value_played : (w : World) (t : Tape) (p x : ℕ) (vs bs : List ℕ) → w.shared ≤ length vs
-    → play (set_value w p x (local w.shared t vs bs)) (flat w.shared vs bs) ≡ played (local w.shared t (slice_set vs p x) bs) (flat w.shared (slice_set vs p x) bs) (making w.shared p (Store p x))
+    → play (value_store w p x (local w.shared t vs bs)) (flat w.shared vs bs) ≡ played (local w.shared t (slice_set vs p x) bs) (flat w.shared (slice_set vs p x) bs) (making w.shared p (Store p x))
 set_value_played w t p x vs bs h = by_test (nat_lt p w.shared) refl
   where
     by_test : (b : Bool) → nat_lt p w.shared ≡ b
@@ -103,7 +103,7 @@ set_value_played w t p x vs bs h = by_test (nat_lt p w.shared) refl
     by_test false e = rw (← set_own w.shared p x vs (not_less p w.shared e), ← cells_kept w.shared p x vs (not_less p w.shared e)) refl
 
 pub set_adjoint_played : (w : World) (t : Tape) (p x : ℕ) (vs bs : List ℕ) → w.shared ≤ length vs
-    → play (set_adjoint w p x (local w.shared t vs bs)) (flat w.shared vs bs) ≡ played (local w.shared t vs (slice_set bs p x)) (flat w.shared vs (slice_set bs p x)) (making w.shared p (Store (w.shared + p) x))
+    → play (adjoint_store w p x (local w.shared t vs bs)) (flat w.shared vs bs) ≡ played (local w.shared t vs (slice_set bs p x)) (flat w.shared vs (slice_set bs p x)) (making w.shared p (Store (w.shared + p) x))
 set_adjoint_played w t p x vs bs h = by_test (nat_lt p w.shared) refl
   where
     by_test : (b : Bool) → nat_lt p w.shared ≡ b
@@ -119,7 +119,7 @@ adds_to_played true q a l c = refl
 adds_to_played false q a l c = refl
 
 pub grow_adjoint_played : (w : World) (c : Choice) (t : Tape) (p a : ℕ) (vs bs : List ℕ) → w.shared ≤ length vs
-    → play (increment_adjoint w c p a (local w.shared t vs bs)) (flat w.shared vs bs)
+    → play (adjoint_increment w c p a (local w.shared t vs bs)) (flat w.shared vs bs)
     ≡ played (local w.shared t vs (slice_set bs p (ring_add (slice_index bs p) a))) (flat w.shared vs (slice_set bs p (ring_add (slice_index bs p) a)))
     (cond (nat_lt p w.shared) (cond (is_one_step c) (Add (w.shared + p) a ∷ []) (Load (w.shared + p) ∷ Bump (w.shared + p) a ∷ [])) [])
 grow_adjoint_played w c t p a vs bs h = by_test (nat_lt p w.shared) refl
@@ -137,7 +137,7 @@ grow_adjoint_played w c t p a vs bs h = by_test (nat_lt p w.shared) refl
         rw (own_word w.shared p bs (not_less p w.shared e)) (rw (← set_own w.shared p x bs (not_less p w.shared e), ← cells_kept w.shared p x bs (not_less p w.shared e)) refl)
 
 pub grow_value_played : (w : World) (one : Bool) (t : Tape) (p a : ℕ) (vs bs : List ℕ) → w.shared ≤ length vs
-    → play (increment_value w one p a (local w.shared t vs bs)) (flat w.shared vs bs)
+    → play (value_increment w one p a (local w.shared t vs bs)) (flat w.shared vs bs)
     ≡ played (local w.shared t (slice_set vs p (ring_add (slice_index vs p) a)) bs) (flat w.shared (slice_set vs p (ring_add (slice_index vs p) a)) bs)
     (cond (nat_lt p w.shared) (cond one (Add p a ∷ []) (Load p ∷ Bump p a ∷ [])) [])
 grow_value_played w one t p a vs bs h = by_test (nat_lt p w.shared) refl

@@ -19,9 +19,9 @@ use Rattle.meaning.specs.Sites.{Cells}
 use Rattle.meaning.specs.Expressions.{content, value_of, holds}
 use Rattle.meaning.specs.Adjoints.{tangent_of}
 use Rattle.transposition.specs.Tapes.{Tape}
-use Rattle.transposition.specs.Worlds.{World, Local, name_at, is_one_step, increment_adjoint}
+use Rattle.transposition.specs.Worlds.{World, Local, name_at, is_one_step, adjoint_increment}
 use Rattle.transposition.specs.Reads.{value_tree, holds_tree, place_tree}
-use Rattle.transposition.specs.Spread.{Factor, operand, either, Occurrence, factor_tree, product_tree, with_sign, increment_one, spread}
+use Rattle.transposition.specs.Spread.{Factor, operand, either, Occurrence, factor_tree, product_tree, with_sign, one_increment, increments}
 use Rattle.transposition.specs.Law.{Use, flat, local, Fit, tangents, HasTouch, HasDifferentiatedRead, CoverAll, AreWords}
 use Rattle.transposition.specs.Needs.{NeedsFactor, NeedsFactors, NeedsOne, NeedsEach}
 use Rattle.transposition.proofs.Words.{words_set, sum_word, not_summed}
@@ -128,10 +128,10 @@ scene_with : (w : World) (u : Use) (s : Cells) (vs bs bs2 : List ℕ) → Scene 
 scene_with w u s vs bs bs2 h l = record { fit = h.fit; like = h.like; wide = h.wide; long = l }
 
 one_spreads : (w : World) (u : Use) (s : Cells) (vs bs : List ℕ) (t : Tape) (ts : Log) (a : ℕ) → Scene w u s vs bs → (o : Occurrence) (z : ℕ) → NeedsOne u o → Worth w s ts a o z → AreWords bs
-    → Spreads w u s ts (play (increment_one w a o (local w.shared t vs bs)) (flat w.shared vs bs)) t vs bs z
+    → Spreads w u s ts (play (one_increment w a o (local w.shared t vs bs)) (flat w.shared vs bs)) t vs bs z
 one_spreads w u s vs bs t ts a h o z q k small =
-    rw (got_then w ts silence (product_tree w l o.factors a) (λ x. and_then (place_tree o.place w l) (λ p. increment_adjoint w (w.choice o.place.name) p (with_sign o.negative x) l)) c k.n one)
-    (rw (got_then w ts silence (place_tree o.place w l) (λ p. increment_adjoint w (w.choice o.place.name) p x l) c k.p two)
+    rw (got_then w ts silence (product_tree w l o.factors a) (λ x. and_then (place_tree o.place w l) (λ p. adjoint_increment w (w.choice o.place.name) p (with_sign o.negative x) l)) c k.n one)
+    (rw (got_then w ts silence (place_tree o.place w l) (λ p. adjoint_increment w (w.choice o.place.name) p x l) c k.p two)
     (rw (grow_adjoint_played w (w.choice o.place.name) t k.p x vs bs (room w u s vs bs h)) (record {
       bs2 = slice_set bs k.p (ring_add (slice_index bs k.p) x);
       out = refl;
@@ -181,13 +181,13 @@ one_spreads w u s vs bs t ts a h o z q k small =
         by_tests false d f g = tt
 
 pub spreads : (w : World) (u : Use) (s : Cells) (vs bs : List ℕ) (t : Tape) (ts : Log) (a : ℕ) → Scene w u s vs bs → (os : List Occurrence) (z : ℕ) → NeedsEach u os → Sum w s ts a os z → AreWords bs
-    → Spreads w u s ts (play (spread w a os (local w.shared t vs bs)) (flat w.shared vs bs)) t vs bs z
+    → Spreads w u s ts (play (increments w a os (local w.shared t vs bs)) (flat w.shared vs bs)) t vs bs z
 spreads w u s vs bs t ts a h [] z q k small =
     record { bs2 = bs; out = refl; cells = refl; long = h.long; words = small; pairs = of_equal _ _ (rw k (omega arith)); cover = tt }
 spreads w u s vs bs t ts a h (o ∷ os) z q k small =
     let one = one_spreads w u s vs bs t ts a h o k.0 q.0 k.2 small in
     let more = spreads w u s vs one.bs2 t ts a (scene_with w u s vs bs one.bs2 h one.long) os k.1 q.1 k.3 one.words in
-    rw (bind (increment_one w a o (local w.shared t vs bs)) (spread w a os) (flat w.shared vs bs)) (rw (one.out, one.cells) (record {
+    rw (bind (one_increment w a o (local w.shared t vs bs)) (increments w a os) (flat w.shared vs bs)) (rw (one.out, one.cells) (record {
       bs2 = more.bs2;
       out = more.out;
       cells = more.cells;

@@ -1,5 +1,5 @@
 -- The premises of the law can be met with a parallel loop: x(i) = x(i)*x(i).
-use Rattle.std.proofs.Common.{◌≡◌, ◌≢◌, ℕ, zero, suc, ◌<◌, ◌≤◌, ◌==◌, List, [], ◌∷◌, refl, ap, sym, ◌∙◌, subst, Bool, true, false, not, ◌&&◌, ◌||◌, Some, None, arith, inl, inr}
+use Rattle.std.proofs.Common.{◌≡◌, ◌≢◌, ℕ, zero, suc, ◌<◌, ◌≤◌, ◌==◌, List, [], ◌∷◌, refl, ap, sym, ◌∙◌, subst, Bool, true, false, not, ◌&&◌, None, arith, inl, inr}
 use Rattle.std.specs.Prelude.{codes, slice_index, bytes_eq, ◌⊎◌}
 use Rattle.std.proofs.lemmas.Bool.{eqb-true, and_parts}
 use Rattle.ring_core.specs.Index.{exact_index}
@@ -7,22 +7,19 @@ use Rattle.fl_ast.specs.declared.kind.Kind.TheVariants as kind
 use Rattle.fl_ast.specs.Tree.{Statements}
 use Rattle.fl_types.specs.declared.access.AccessKind.{AccessKind}
 use Rattle.fl_types.specs.declared.choice.Choice.TheVariants.{Shared, Atomic}
-use Rattle.meaning.specs.declared.value.Value.{Value}
-use Rattle.meaning.specs.declared.value.Value.TheVariants.{Index, Ring}
 use Rattle.meaning.specs.declared.value.IterationCount.{IterationCount}
 use Rattle.meaning.specs.Logs.{Log, silence, single, touched, sets, both, within}
-use Rattle.meaning.specs.Sites.{Cells, Site, opening_site, kind_of, word_of}
-use Rattle.meaning.specs.Expressions.{content}
+use Rattle.meaning.specs.Sites.{Cells, Site, opening_site}
 use Rattle.meaning.specs.Statements.{Heads, iterations}
 use Rattle.meaning.specs.Adjoints.{cells_along, unit}
 use Rattle.meaning.proofs.Small.{declared, scalar, array, word, number, one, name, at, into, ◌times◌, only, set as set_to, clauses, parallel, all_pushed}
+use Rattle.meaning.specs.Fitting.{Fits}
 use Rattle.transposition.specs.Worlds.{World, in_iteration, name_at}
-use Rattle.transposition.specs.Law.{Use, Like, HasKind, Fit, HasTouch, Calm, AreWords}
+use Rattle.transposition.specs.Law.{Use, Like, HasTouch, Calm, AreWords}
 use Rattle.transposition.specs.Sound.{writes_in, SoundAll, SoundRounds, Own}
-use Rattle.fl_types.specs.Sharing.{has_name}
-use Rattle.std.proofs.lemmas.Slice.Eq.{bytes_eq-Decides}
 use Rattle.transposition.specs.Calms.{IsCalmAll, iteration_log}
 use Rattle.transposition.specs.Answer.{Answer}
+use Rattle.transposition.proofs.Meeting.{not_true, or_false, or_none, named, only_at, held_fits, held_words}
 use Rattle.transposition.proofs.Words.{all_small}
 use Rattle.transposition.proofs.Transposed.{answered}
 
@@ -53,44 +50,15 @@ outer = record { needed = λ z. not (bytes_eq z i); live = λ z. bytes_eq z x; m
 abbrev inner : Use
 inner = record { needed = λ z. true; live = λ z. bytes_eq z x; moved = λ z. true }
 
-not_true : (b : Bool) → not b ≡ true → b ≡ false
-not_true true h = cc
-not_true false h = refl
-
-or_false : (b : Bool) → (b || false) ≡ false → b ≡ false
-or_false true h = cc
-or_false false h = refl
-
-or_none : (b : Bool) → b ≡ false → (b || false) ≡ false
-or_none true h = cc
-or_none false h = refl
-
-or_true : (b : Bool) → (b || false) ≡ true → b ≡ true
-or_true true h = refl
-or_true false h = cc
-
--- what holds of the one name of a list
-named : (x y : List ℕ) (P : List ℕ → Type 0) → has_name y (x ∷ []) ≡ true → P x → P y
-named x y P h p = subst P (sym ((bytes_eq-Decides y x).0 (or_true (bytes_eq y x) h))) p
-
 own_i : Own world i
-own_i = record { q = 3; place = refl; only = only_at; own = omega arith }
-  where
-    only_at : (p : ℕ) → name_at site.keys p ≡ i → p ≡ 3
-    only_at zero h = cc
-    only_at (suc zero) h = cc
-    only_at (suc (suc zero)) h = cc
-    only_at (suc (suc (suc zero))) h = refl
-    only_at (suc (suc (suc (suc p)))) h = cc
+own_i = record { q = 3; place = refl; only = only_at i 3 site.keys refl; own = omega arith }
 
 rounds_sound : SoundRounds world outer inner 1 clauses i body
 rounds_sound = record {
   variables = (own_i, tt);
   whole = λ z h. named i z (λ y. site.ring y ≡ false) h refl;
-  apart = λ z h. refl;
   unvaried = λ z h. named i z (λ y. writes_in y body ≡ false) h refl;
   privates = tt;
-  assigned = λ z h. cc;
   pushed = λ z h k. refl;
   needed = λ z h k e. ap not (or_false (bytes_eq z i) e);
   outside = λ z h. (refl, refl, or_none (bytes_eq z i) (not_true (bytes_eq z i) h));
@@ -98,7 +66,6 @@ rounds_sound = record {
   moved = λ z. refl;
   dead = dead;
   stays = stays;
-  listed = λ z h. cc;
   inside = inside;
   silent = λ z. refl;
   summed = ((λ h. cc), ((λ h. cc), ((λ h. cc), tt)));
@@ -153,7 +120,7 @@ cells = number 2 ∷ word 3 ∷ word 5 ∷ None ∷ []
 
 -- ---- touches at one place
 
-abbrev all_at : ℕ → Log → Bool
+abbrev pub all_at : ℕ → Log → Bool
 all_at q silence = true
 all_at q (single e) = true
 all_at q (touched p k) = p == q
@@ -161,7 +128,7 @@ all_at q (sets p v) = true
 all_at q (both a b) = all_at q a && all_at q b
 all_at q (within p a) = all_at q a
 
-touched_at : (q p : ℕ) (k : AccessKind) (l : Log) → all_at q l ≡ true → HasTouch k p l → p ≡ q
+pub touched_at : (q p : ℕ) (k : AccessKind) (l : Log) → all_at q l ≡ true → HasTouch k p l → p ≡ q
 touched_at q p k silence h g = absurd g
 touched_at q p k (single e) h g = absurd g
 touched_at q p k (touched r j) h g = sym g.0 ∙ eqb-true r q h
@@ -201,35 +168,18 @@ calm = (
   λ s h. tt,
 )
 
-of_value : (a b : Value) (k : _) → Some a ≡ Some b → HasKind k a → HasKind k b
-of_value a b k e h = let f : a ≡ b = cc in subst (λ (v : Value). HasKind k v) f h
-
-fit : Fit world outer (cells_along (unit 1) cells)
-fit = record { long = refl; room = omega arith; kinds = kinds; still = λ p h. cc }
-  where
-    kinds : (p : ℕ) (v : Value) → content (cells_along (unit 1) cells) p ≡ Some v → HasKind (kind_of site (name_at site.keys p)) v
-    kinds zero v e = of_value (Index (Rattle.std.specs.Prelude.pos 2)) v kind.Index e refl
-    kinds (suc zero) v e = of_value (Ring (record { value = 3; tangent = 1 })) v kind.Ring e (omega arith)
-    kinds (suc (suc zero)) v e = of_value (Ring (record { value = 5; tangent = 0 })) v kind.Ring e (omega arith)
-    kinds (suc (suc (suc zero))) v e = cc
-    kinds (suc (suc (suc (suc p)))) v e = cc
-
-word_same : (a b : Value) → Some a ≡ Some b → word_of (Some a) ≡ word_of (Some b)
-word_same a b e = ap word_of e
+fits : Fits site cells
+fits = held_fits site site.keys cells refl
 
 like : Like outer site.keys (2 ∷ 9 ∷ 25 ∷ 0 ∷ []) (number 2 ∷ word 9 ∷ word 25 ∷ number 2 ∷ [])
-like zero v e h = word_same (Index (Rattle.std.specs.Prelude.pos 2)) v e
-like (suc zero) v e h = word_same (Ring (record { value = 9; tangent = 0 })) v e
-like (suc (suc zero)) v e h = word_same (Ring (record { value = 25; tangent = 0 })) v e
-like (suc (suc (suc zero))) v e h = cc
-like (suc (suc (suc (suc p)))) v e h = cc
+like = held_words outer site.keys (2 ∷ 9 ∷ 25 ∷ 0 ∷ []) (number 2 ∷ word 9 ∷ word 25 ∷ number 2 ∷ []) refl
 
 small : AreWords (0 ∷ 1 ∷ 10 ∷ 0 ∷ [])
 small = all_small (0 ∷ 1 ∷ 10 ∷ 0 ∷ []) refl
 
 met : Answer world outer squares cells (2 ∷ 9 ∷ 25 ∷ 0 ∷ []) (0 ∷ 1 ∷ 10 ∷ 0 ∷ []) 1
 unfolding exact_index
-met = answered world outer squares cells (number 2 ∷ word 9 ∷ word 25 ∷ number 2 ∷ []) (2 ∷ 9 ∷ 25 ∷ 0 ∷ []) (0 ∷ 1 ∷ 10 ∷ 0 ∷ []) 1 (record { value = 3; tangent = 0 }) sound calm fit refl like refl refl small refl refl dead_seed
+met = answered world outer squares cells (number 2 ∷ word 9 ∷ word 25 ∷ number 2 ∷ []) (2 ∷ 9 ∷ 25 ∷ 0 ∷ []) (0 ∷ 1 ∷ 10 ∷ 0 ∷ []) 1 (record { value = 3; tangent = 0 }) sound calm fits (omega arith) refl refl like refl refl small refl refl dead_seed
   where
     dead_seed : (p : ℕ) → bytes_eq (name_at site.keys p) x ≡ false → true ≡ true → slice_index (0 ∷ 1 ∷ 10 ∷ 0 ∷ []) p ≡ 0
     dead_seed zero h k = refl

@@ -1,8 +1,8 @@
 -- The adjoint that the reverse part leaves at a place is the seed-weighted sum of the tangents of the unit direction.
-use Rattle.std.proofs.Common.{◌≡◌, ℕ, zero, suc, ◌+◌, ◌*◌, List, [], ◌∷◌, refl, ap, sym, ◌∙◌, subst, arith, length, map, Bool, true, false, cond, Option, Some, None, Result, Ok, Err}
+use Rattle.std.proofs.Common.{◌≡◌, ◌^◌, ◌<◌, ℕ, zero, suc, ◌+◌, ◌*◌, List, [], ◌∷◌, refl, ap, sym, ◌∙◌, subst, arith, length, map, Bool, true, false, cond, Option, Some, None, Result, Ok, Err}
 use Rattle.std.specs.Prelude.{slice_index}
 use Rattle.ring_core.specs.Ring.{ring_mul}
-use Rattle.pairing.specs.Ring.{Same}
+use Rattle.pairing.specs.Ring.{big, Same}
 use Rattle.pairing.specs.Pair.{pair, live}
 use Rattle.pairing.proofs.Sames.{of_equal, same_sum, same_product, strip_add, strip_mul}
 use Rattle.operations.specs.Tree.{Played, play}
@@ -14,7 +14,7 @@ use Rattle.meaning.specs.Logs.{Log}
 use Rattle.meaning.specs.Sites.{Key, Cells, word_of}
 use Rattle.meaning.specs.Expressions.{content}
 use Rattle.meaning.specs.Statements.{run_all}
-use Rattle.meaning.specs.Adjoints.{cells_along, unit, tangent_of, pairing_of, pairing_after}
+use Rattle.meaning.specs.Adjoints.{cells_along, unit, tangent_of, pairing_of, pairing_after, adjoint_at}
 use Rattle.meaning.specs.Sites.{with_tangent}
 use Rattle.meaning.specs.Laws.{values_out}
 use Rattle.meaning.proofs.LawProofs.{unseen as tangents_are_unseen}
@@ -22,15 +22,13 @@ use Rattle.transposition.specs.Tapes.{empty, tape_after}
 use Rattle.transposition.specs.Worlds.{World, Local, name_at}
 use Rattle.transposition.specs.Back.{back_all}
 use Rattle.transposition.specs.Law.{Use, flat, local, Like, Fit, tangents}
-use Rattle.transposition.specs.Answer.{swept, ReverseIsTransposed}
+use Rattle.transposition.specs.Answer.{reverse_run, ReverseIsTransposed}
+use Rattle.transposition.proofs.Fits.{still_pointed, unit_fit}
+use Rattle.transposition.proofs.Words.{zero_word, sum_word}
+use Rattle.transposition.proofs.Split.{adjoint_cell}
 use Rattle.transposition.proofs.Places.{content_later, tangent_here}
 use Rattle.transposition.proofs.Whole.{kept_all}
 use Rattle.transposition.proofs.Whole.{undone_all}
-
-still_pointed : (c : Option Value) → tangent_of (with_tangent 0 c) ≡ 0
-still_pointed None = refl
-still_pointed (Some (Index z)) = refl
-still_pointed (Some (Ring d)) = refl
 
 keep_zero : (b : Bool) (x : ℕ) → x ≡ 0 → cond b x 0 ≡ 0
 keep_zero true x h = h
@@ -100,7 +98,7 @@ like_along u keys vs s t e l p v h n =
     let y = some_of (content s p) v same in
     l p y.0 y.1 n ∙ pointed_some (content s p) v same y.0 y.1
 
-along_along : (ts : List ℕ) (s : Cells) → cells_along [] (cells_along ts s) ≡ cells_along [] s
+pub along_along : (ts : List ℕ) (s : Cells) → cells_along [] (cells_along ts s) ≡ cells_along [] s
 along_along ts [] = refl
 along_along [] (c ∷ s) = rw (twice 0 c, along_along [] s) refl
   where
@@ -116,12 +114,12 @@ along_along (t ∷ ts) (c ∷ s) = rw (twice t c, along_along ts s) refl
     twice t (Some (Ring d)) = refl
 
 -- a run in another direction ends, too
-record Turned (r : Result Cells TrapAt) (s2 : Cells) : Type 0 where
+pub record Turned (r : Result Cells TrapAt) (s2 : Cells) : Type 0 where
   pub s3 : Cells
   pub out : r ≡ Ok s3
   pub same : cells_along [] s2 ≡ cells_along [] s3
 
-turned : (r q : Result Cells TrapAt) (s2 : Cells) → q ≡ Ok s2 → values_out q ≡ values_out r → Turned r s2
+pub turned : (r q : Result Cells TrapAt) (s2 : Cells) → q ≡ Ok s2 → values_out q ≡ values_out r → Turned r s2
 turned (Ok c) q s2 e h = let f : values_out (Ok s2) ≡ values_out (Ok c) = ap values_out (sym e) ∙ h in record { s3 = c; out = refl; same = (let g : cells_along [] s2 ≡ cells_along [] c = cc in g) }
 turned (Err x) q s2 e h = let f : values_out (Ok s2) ≡ values_out (Err x) = ap values_out (sym e) ∙ h in cc
 
@@ -130,26 +128,48 @@ long_along ts [] = refl
 long_along [] (c ∷ s) = ap suc (long_along [] s)
 long_along (t ∷ ts) (c ∷ s) = ap suc (long_along ts s)
 
+pairing_word : (ws : List ℕ) (s : Cells) → pairing_of ws s < 2 ^ 64
+pairing_word [] s = zero_word
+pairing_word (w ∷ ws) [] = zero_word
+pairing_word (w ∷ ws) (c ∷ s) = sum_word (ring_mul w (tangent_of c)) (pairing_of ws s)
+
+adjoint_word : (seed : List ℕ) (r : Result Cells TrapAt) → pairing_after seed r < 2 ^ 64
+adjoint_word seed (Ok s) = pairing_word seed s
+adjoint_word seed (Err t) = zero_word
+
+exact : (a b : ℕ) → a < 2 ^ 64 → b < 2 ^ 64 → Same a b → a ≡ b
+unfolding big
+exact a b h k e = omega arith
+
 pub answered : ReverseIsTransposed
-answered w u xs s s2 vs seed j d sound calm fit h like wide long small ring alive dead =
+answered w u xs s s2 vs seed j d sound calm fits room moved h like wide long small ring alive dead =
     let sj = cells_along (unit j) s in
+    let fit = unit_fit w u s j fits room moved in
     let unseen = tangents_are_unseen xs w.site s sj (sym (along_along (unit j) s)) in
     let t = turned (run_all xs w.site sj).out (run_all xs w.site s).out s2 h unseen.1 in
     let kept = kept_all xs w u sj t.s3 fit sound t.out in
     let like3 = like_along u w.site.keys vs s2 t.s3 t.same like in
     let e = undone_all xs w u (run_all xs w.site sj).log sj t.s3 empty fit sound calm (record { touches = λ k p i. i; differentiated = λ p i. i }) t.out vs seed like3 wide long small in
-    let same-tree : play (back_all xs w (local w.shared (tape_after (run_all xs w.site sj).log empty) vs seed)) (flat w.shared vs seed) ≡ swept w xs s vs seed =
+    let same-tree : play (back_all xs w (local w.shared (tape_after (run_all xs w.site sj).log empty) vs seed)) (flat w.shared vs seed) ≡ reverse_run w xs s vs seed =
     ap (λ (l : Log). play (back_all xs w (local w.shared (tape_after l empty) vs seed)) (flat w.shared vs seed)) (sym unseen.0) in
     let unit-pair : pair e.bs2 (tangents u w.site.keys sj) ≡ slice_index e.bs2 j =
     pair_unit (λ p. u.live (name_at w.site.keys p)) 0 j e.bs2 s d ring (ap (λ (m : ℕ). u.live (name_at w.site.keys m)) (omega arith) ∙ alive) (e.long ∙ (sym fit.long ∙ long_along (unit j) s)) in
     let seen : Same (pair seed (tangents u w.site.keys t.s3)) (pair seed (map tangent_of t.s3)) =
     pair_live (λ p. u.live (name_at w.site.keys p)) 0 seed (map tangent_of t.s3) (λ p o. unmet w u t.s3 seed p kept.fit dead (ap (λ (m : ℕ). u.live (name_at w.site.keys m)) (omega arith) ∙ o)) in
+    let the-adjoint : slice_index e.bs2 j ≡ adjoint_at (run_all xs w.site) s seed j =
+    exact (slice_index e.bs2 j) (adjoint_at (run_all xs w.site) s seed j) (e.words j) (adjoint_word seed (run_all xs w.site sj).out)
+    (of_equal _ _ (sym unit-pair) ∙ (e.pairs ∙ (seen ∙ (sym (paired_is seed t.s3) ∙ of_equal _ _ (ap (pairing_after seed) (sym t.out)))))) in
     record {
       vs2 = e.vs2;
       bs2 = e.bs2;
       out = ap (λ (r : Played Local). r.out) (sym same-tree) ∙ e.out;
       cells = ap (λ (r : Played Local). r.cells) (sym same-tree) ∙ e.cells;
-      adjoint = of_equal _ _ (sym unit-pair) ∙ (e.pairs ∙ (seen ∙ (sym (paired_is seed t.s3) ∙ of_equal _ _ (ap (pairing_after seed) (sym t.out)))));
+      wide = e.wide;
+      long = e.long;
+      words = e.words;
+      adjoint = the-adjoint;
+      cell = λ i. ap (λ (r : Played Local). slice_index r.cells (w.shared + j)) (sym same-tree) ∙ (ap (λ (c : List ℕ). slice_index c (w.shared + j)) e.cells
+          ∙ (adjoint_cell w.shared j e.vs2 e.bs2 (let a = e.wide in let b = fit.room in omega arith) i ∙ the-adjoint));
       values = like_along u w.site.keys e.vs2 sj s (along_along (unit j) s) e.like;
     }
   where

@@ -23,7 +23,8 @@ use Rattle.meaning.specs.Logs.{lift, ◌>>=◌}
 use Rattle.meaning.specs.Sites.{Cells, place_of, kind_of}
 use Rattle.meaning.specs.Expressions.{read, value_of, values_of}
 use Rattle.transposition.specs.Worlds.{World}
-use Rattle.transposition.specs.Law.{Use, Fit, HasKind}
+use Rattle.transposition.specs.Law.{Use, Fit}
+use Rattle.meaning.specs.Fitting.{HasKind}
 use Rattle.transposition.specs.Needs.{is_data, has_data, PairOfOneKind, Kinded, KindedAll}
 use Rattle.transposition.proofs.Keys.{stands}
 use Rattle.transposition.proofs.Bounds.{bound, read_inverted, listed}

@@ -17,6 +17,7 @@ use Rattle.meaning.specs.Statements.{Run, with_log, assignment_by, turns_of, val
 use Rattle.transposition.specs.Worlds.{World, in_turn, in_iteration}
 use Rattle.transposition.specs.Law.{Use, Fit, Within, Undoes}
 use Rattle.transposition.specs.Sound.{scope_with, writes, writes_in, writes_in_arms, arm_count, Sound, SoundAll, SoundArms, SoundInner, SoundWithin}
+use Rattle.transposition.proofs.RoundFacts.{round_facts}
 use Rattle.transposition.proofs.Keys.{stands}
 use Rattle.transposition.proofs.Places.{content_set_same}
 use Rattle.transposition.proofs.Bounds.{bound}
@@ -113,7 +114,7 @@ mutual
       let r = heads_run w u s fit d (further_head directive body) sound.2 sound.3 p.heads p.counts in
       subst (λ (x : Cells). Keeps w u (λ y. bytes_eq y var || (has_name y directive.privates || writes_in y body)) s x) p.last_is
       (turns_kept w u (λ y. bytes_eq y var || (has_name y directive.privates || writes_in y body)) (iterations p.heads) (iteration_run w directive var body p.heads)
-      (λ k i s s2 fit h. iteration_kept w u sound.0 number directive var body sound.1
+      (λ k i s s2 fit h. iteration_kept w u sound.0 number directive var body (round_facts w u sound.0 number directive var body sound.5 sound.1)
       (kept_body (is_nest directive body) body (in_iteration w number directive var body) sound.0 sound.4
       (λ q s s2 fit h. kept_all body (in_iteration w number directive var body) sound.0 s s2 fit q h)
       (λ q s s2 fit h. kept_inner body (in_iteration w number directive var body) sound.0 s s2 fit q h))
@@ -271,7 +272,7 @@ mutual
       let n = iterations p.heads in
       let f = iteration_run w directive var body p.heads in
       let words : Undoes w u ts (parallel_back w number directive var body (back_all (iteration_body directive body))) t (loop_tape p.heads (iteration_tapes (turns n f s).log) t) s s2 =
-      λ vs bs lk wide long small. (parallel_undone w u sound.0 ts number directive var body sound.1
+      λ vs bs lk wide long small. (parallel_undone w u sound.0 ts number directive var body (round_facts w u sound.0 number directive var body sound.5 sound.1)
       (kept_body (is_nest directive body) body v sound.0 sound.4 (λ q s s2 fit h. kept_all body v sound.0 s s2 fit q h) (λ q s s2 fit h. kept_inner body v sound.0 s s2 fit q h))
       (sound_undone (is_nest directive body) body v sound.0 sound.4
       (λ q s ts s2 t fit ins h. undone_all body v sound.0 ts s s2 t fit q (flat_calm body v s sound.5) ins h)

@@ -1,4 +1,5 @@
 -- Adjoints are words.
+use Rattle.std.specs.Prelude.{All}
 use Rattle.std.specs.Prelude.{◌≡◌, ℕ, zero, suc, ◌<◌, ◌^◌, ◌&&◌, nat_lt, Bool, true, false, List, [], ◌∷◌, slice_index, slice_set, refl}
 use Rattle.std.proofs.Common.{arith}
 use Rattle.std.proofs.lemmas.Bool.{and_parts}
@@ -46,3 +47,8 @@ pub all_small : (bs : List ℕ) → has_words bs ≡ true → AreWords bs
 all_small [] h p = zero_word
 all_small (b ∷ bs) h zero = let e = (and_parts (nat_lt b 18446744073709551616) (has_words bs) h).0 in grind (arith, nat_tests)
 all_small (b ∷ bs) h (suc p) = all_small bs (and_parts (nat_lt b 18446744073709551616) (has_words bs) h).1 p
+
+pub all_words : (bs : List ℕ) → has_words bs ≡ true → All (λ x. x < 2 ^ 64) bs
+all_words [] h k d l = absurd (omega arith)
+all_words (b ∷ bs) h zero d l = let e = (and_parts (nat_lt b 18446744073709551616) (has_words bs) h).0 in grind (arith, nat_tests)
+all_words (b ∷ bs) h (suc k) d l = all_words bs (and_parts (nat_lt b 18446744073709551616) (has_words bs) h).1 k d (omega arith)

@@ -17,9 +17,9 @@ use Rattle.meaning.specs.Values.{as_dual}
 use Rattle.meaning.specs.Sites.{place_of}
 use Rattle.meaning.specs.Statements.{private_names, value_at, Heads, iterations}
 use Rattle.transposition.specs.Tapes.{Tape, Tapes, top, rest, top_tapes, tape_at}
-use Rattle.transposition.specs.Worlds.{World, Local, is_reduction, adjoint_load, set_value, set_adjoint, increment_value, with_value, with_adjoint, in_turn, in_iteration}
+use Rattle.transposition.specs.Worlds.{World, Local, is_reduction, adjoint_load, value_store, adjoint_store, value_increment, with_value, with_adjoint, in_turn, in_iteration}
 use Rattle.transposition.specs.Reads.{value_tree, place_tree, place_or_zero}
-use Rattle.transposition.specs.Spread.{Occurrence, occurrences, spread}
+use Rattle.transposition.specs.Spread.{Occurrence, occurrences, increments}
 
 abbrev pub after_pop : Local → Local
 after_pop l = record l { tape = rest l.tape }
@@ -31,16 +31,16 @@ abbrev pub adjoint_tree : World → Designator → Local → Tree ℕ
 adjoint_tree w p l = place_tree p w l giving adjoint_load w l
 
 -- `formad_t = x_b`, `x_b = 0_8`
-abbrev pub take_adjoint : World → Designator → Local → (ℕ → Local → Tree Local) → Tree Local
-take_adjoint w p l k = adjoint_tree w p l giving (λ t. place_tree p w l giving (λ q. set_adjoint w q 0 l giving k t))
+abbrev pub adjoint_move : World → Designator → Local → (ℕ → Local → Tree Local) → Tree Local
+adjoint_move w p l k = adjoint_tree w p l giving (λ t. place_tree p w l giving (λ q. adjoint_store w q 0 l giving k t))
 
 -- the old value, where it was pushed
-abbrev pub restore_value : World → Designator → Local → Tree Local
-restore_value w p l = cond (w.site.pushed p.name) (place_tree p w l giving (λ q. set_value w q (top l.tape) (after_pop l))) (done l)
+abbrev pub value_restoration : World → Designator → Local → Tree Local
+value_restoration w p l = cond (w.site.pushed p.name) (place_tree p w l giving (λ q. value_store w q (top l.tape) (after_pop l))) (done l)
 
 abbrev pub plain_back : World → Designator → Expression → Local → Tree Local
 plain_back w p e l =
-    cond (w.active p.name) (take_adjoint w p l (λ t m. restore_value w p m giving spread w t (occurrences w.active e false []))) (restore_value w p l)
+    cond (w.active p.name) (adjoint_move w p l (λ t m. value_restoration w p m giving increments w t (occurrences w.active e false []))) (value_restoration w p l)
 
 -- the rest terms with their signs turned, added up
 abbrev pub rest_tree : World → List Signed → ℕ → Local → Tree ℕ
@@ -48,9 +48,9 @@ rest_tree w [] a l = done a
 rest_tree w (r ∷ rs) a l = value_tree r.1 w l giving (λ v. rest_tree w rs (cond r.0 (ring_add a (as_dual v).value) (ring_sub a (as_dual v).value)) l)
 
 -- an increment undone, where its target's value is needed
-abbrev pub undo_increment : World → Bool → Designator → List Signed → Local → Tree Local
-undo_increment w atomic p rs l =
-    cond (w.site.pushed p.name) (rest_tree w rs 0 l giving (λ a. place_tree p w l giving (λ q. increment_value w (atomic || w.site.pluses p.name) q a l))) (done l)
+abbrev pub increment_reversal : World → Bool → Designator → List Signed → Local → Tree Local
+increment_reversal w atomic p rs l =
+    cond (w.site.pushed p.name) (rest_tree w rs 0 l giving (λ a. place_tree p w l giving (λ q. value_increment w (atomic || w.site.pluses p.name) q a l))) (done l)
 
 abbrev pub rest_occurrences : (List ℕ → Bool) → List Signed → List Occurrence
 rest_occurrences on [] = []
@@ -58,7 +58,7 @@ rest_occurrences on (r ∷ rs) = occurrences on r.1 r.0 [] ++ rest_occurrences o
 
 abbrev pub increment_back : World → Bool → Designator → List Signed → Local → Tree Local
 increment_back w atomic p rs l =
-    undo_increment w atomic p rs l giving (λ m. cond (w.active p.name) (adjoint_tree w p m giving (λ t. spread w t (rest_occurrences w.active rs) m)) (done m))
+    increment_reversal w atomic p rs l giving (λ m. cond (w.active p.name) (adjoint_tree w p m giving (λ t. increments w t (rest_occurrences w.active rs) m)) (done m))
 
 abbrev pub assignment_back : World → Bool → Designator → Expression → Option (List Signed) → Local → Tree Local
 assignment_back w atomic p e None l = plain_back w p e l
@@ -119,15 +119,15 @@ loop_back w var body l =
 -- ---- parallel loops
 
 -- the private scalars that were pushed, the last first
-abbrev pub pop_privates : World → Statements → List (List ℕ) → Local → Local
-pop_privates w body [] l = l
-pop_privates w body (x ∷ xs) l =
-    let m = pop_privates w body xs l in
+abbrev pub after_private_pops : World → Statements → List (List ℕ) → Local → Local
+after_private_pops w body [] l = l
+after_private_pops w body (x ∷ xs) l =
+    let m = after_private_pops w body xs l in
     cond (assigns_in x body && w.site.pushed x) (with_value w (place_or_zero (place_of w.site x [])) (top m.tape) (after_pop m)) m
 
-abbrev pub clear_privates : World → List (List ℕ) → Local → Local
-clear_privates w [] l = l
-clear_privates w (x ∷ xs) l = clear_privates w xs (with_adjoint w (place_or_zero (place_of w.site x [])) 0 l)
+abbrev pub with_clear_privates : World → List (List ℕ) → Local → Local
+with_clear_privates w [] l = l
+with_clear_privates w (x ∷ xs) l = with_clear_privates w xs (with_adjoint w (place_or_zero (place_of w.site x [])) 0 l)
 
 -- the additions to a Reduction's adjoint, made once at the end
 abbrev pub with_collection : ℕ → Tree Local → Tree Local
@@ -142,7 +142,7 @@ with_collections w (x ∷ xs) t =
 abbrev pub iteration_local : World → Directive → List ℕ → Statements → Heads → Tapes → Local → ℕ → Local
 iteration_local w directive var tree heads ts l k =
     let names = private_names w.site directive var tree in
-    clear_privates w names (pop_privates w tree names (with_variable_words w heads k (record l { tape = tape_at ts k })))
+    with_clear_privates w names (after_private_pops w tree names (with_variable_words w heads k (record l { tape = tape_at ts k })))
 
 abbrev pub iteration_tree : World → ℕ → Directive → List ℕ → Statements → Heads → Tapes → (World → Local → Tree Local) → Local → ℕ → Tree Local
 iteration_tree w number directive var tree heads ts body l k =

@@ -1,10 +1,7 @@
 -- What the law of the reverse part says of a run and of the tree that undoes it.
 use Rattle.std.specs.Prelude.{◌≡◌, ◌⊎◌, ℕ, ◌-◌, ◌<◌, ◌≤◌, ◌^◌, Bool, true, false, cond, nat_lt, List, [], ◌∷◌, ◌++◌, map, take, drop, length, Some, slice_index}
-use Rattle.ring_core.specs.Index.{IsIndex}
 use Rattle.pairing.specs.Ring.{Same}
 use Rattle.pairing.specs.Pair.{pair, live}
-use Rattle.fl_ast.specs.declared.kind.Kind.{Kind}
-use Rattle.fl_ast.specs.declared.kind.Kind.TheVariants as kind
 use Rattle.fl_types.specs.declared.access.AccessKind.{AccessKind}
 use Rattle.fl_types.specs.declared.access.AccessKind.TheVariants.{Read, Write, Update}
 use Rattle.fl_types.specs.declared.choice.Choice.TheVariants.{Reduction}
@@ -13,12 +10,12 @@ use Rattle.operations.specs.declared.op.Op.TheVariants.{Load, Store, Bump, Add}
 use Rattle.operations.specs.Ops.{cell_of}
 use Rattle.operations.specs.Tree.{Tree, Played, play}
 use Rattle.meaning.specs.declared.value.Value.{Value}
-use Rattle.meaning.specs.declared.value.Value.TheVariants.{Index, Ring}
 use Rattle.meaning.specs.Logs.{Log, silence, single, touched, sets, both, within, instance, right_side, rounds, turn, iteration, condition, taken}
 use Rattle.meaning.specs.Sites.{Key, Cells, kind_of, word_of}
 use Rattle.meaning.specs.Expressions.{content}
 use Rattle.meaning.specs.Adjoints.{tangent_of}
 use Rattle.meaning.specs.Conflicts.{clashes}
+use Rattle.meaning.specs.Fitting.{HasKind}
 use Rattle.transposition.specs.Tapes.{Tape}
 use Rattle.transposition.specs.Worlds.{World, Local, is_one_step, is_reduction, name_at}
 
@@ -43,12 +40,6 @@ Like u keys vs s = (p : ℕ) (v : Value) → content s p ≡ Some v → u.needed
 
 abbrev pub tangents : Use → List Key → Cells → List ℕ
 tangents u keys s = live (λ p. u.live (name_at keys p)) 0 (map tangent_of s)
-
-abbrev pub HasKind : Kind → Value → Type 0
-HasKind kind.Ring (Ring d) = d.value < 2 ^ 64
-HasKind kind.Index (Index z) = IsIndex z
-HasKind kind.Ring (Index z) = ⊥
-HasKind kind.Index (Ring d) = ⊥
 
 pub record Fit (w : World) (u : Use) (s : Cells) : Type 0 where
   pub long : length s ≡ length w.site.keys

@@ -10,7 +10,6 @@ use Rattle.meaning.specs.Sites.{place_of}
 use Rattle.meaning.specs.Statements.{private_names}
 use Rattle.fl_ast.specs.declared.directive.Directive.{Directive}
 use Rattle.transposition.specs.Back.{loop_variables, rest_occurrences}
-use Rattle.fl_types.specs.Sharing.{assigns_in}
 use Rattle.transposition.specs.Worlds.{World, is_reduction, name_at, in_turn, in_iteration}
 use Rattle.transposition.specs.Spread.{occurrences}
 use Rattle.transposition.specs.Law.{Use}
@@ -174,11 +173,9 @@ pub record SoundRounds (w : World) (u inner : Use) (number : ℕ) (directive : D
   -- the loops' variables, of the index kind, which the iterations don't set
   pub variables : AllOwn w (loop_variables directive var tree)
   pub whole : (x : List ℕ) → has_name x (loop_variables directive var tree) ≡ true → w.site.ring x ≡ false
-  pub apart : (x : List ℕ) → has_name x (loop_variables directive var tree) ≡ true → has_name x (privates_of w directive var tree) ≡ false
   pub unvaried : (x : List ℕ) → has_name x (loop_variables directive var tree) ≡ true → writes_in x (iteration_body directive tree) ≡ false
   pub privates : AllOwn w (privates_of w directive var tree)
-  -- what a private scalar's word is good for: set in an iteration, and pushed
-  pub assigned : (x : List ℕ) → has_name x (privates_of w directive var tree) ≡ true → assigns_in x tree ≡ writes_in x (iteration_body directive tree)
+  -- a private scalar's word is good for what is pushed
   pub pushed : (x : List ℕ) → has_name x (privates_of w directive var tree) ≡ true → inner.needed x ≡ true → w.site.pushed x ≡ true
   -- names in scope inside and outside
   pub needed : (x : List ℕ) → inner.needed x ≡ true → has_name x (privates_of w directive var tree) ≡ false → has_name x (loop_variables directive var tree) ≡ false → u.needed x ≡ true
@@ -188,7 +185,6 @@ pub record SoundRounds (w : World) (u inner : Use) (number : ℕ) (directive : D
   -- what an iteration has of its own doesn't count outside, and the outer loops' variables stay
   pub dead : (p : ℕ) → w.shared ≤ p → u.live (name_at w.site.keys p) ≡ false
   pub stays : (p : ℕ) → w.shared ≤ p → u.needed (name_at w.site.keys p) ≡ true → writes_in (name_at w.site.keys p) (iteration_body directive tree) ≡ false
-  pub listed : (x : List ℕ) → has_name x (privates_of w directive var tree) ≡ true → has_name x directive.privates ≡ true
   -- in the loop each place's name makes touches, and outside none does
   pub inside : (p : ℕ) → p < w.shared → (in_iteration w number directive var tree).site.accessed (name_at w.site.keys p) ≡ true
   pub silent : (x : List ℕ) → w.site.accessed x ≡ false

@@ -19,10 +19,6 @@ abbrev pub both_tapes : Tapes → Tapes → Tapes
 both_tapes none us = us
 both_tapes (more t ts) us = more t (both_tapes ts us)
 
-abbrev pub tape_count : Tapes → ℕ
-tape_count none = 0
-tape_count (more t ts) = suc (tape_count ts)
-
 -- the tape of an iteration
 abbrev pub tape_at : Tapes → ℕ → Tape
 tape_at none i = empty

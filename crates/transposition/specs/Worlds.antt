@@ -40,19 +40,19 @@ with_value w p x l = record l { values = slice_set l.values (p - w.shared) x }
 abbrev pub with_adjoint : World → ℕ → ℕ → Local → Local
 with_adjoint w p x l = record l { adjoints = slice_set l.adjoints (p - w.shared) x }
 
-abbrev pub set_value : World → ℕ → ℕ → Local → Tree Local
-set_value w p x l = cond (nat_lt p w.shared) (does (Store p x) (done l)) (done (with_value w p x l))
+abbrev pub value_store : World → ℕ → ℕ → Local → Tree Local
+value_store w p x l = cond (nat_lt p w.shared) (does (Store p x) (done l)) (done (with_value w p x l))
 
-abbrev pub set_adjoint : World → ℕ → ℕ → Local → Tree Local
-set_adjoint w p x l = cond (nat_lt p w.shared) (does (Store (w.shared + p) x) (done l)) (done (with_adjoint w p x l))
+abbrev pub adjoint_store : World → ℕ → ℕ → Local → Tree Local
+adjoint_store w p x l = cond (nat_lt p w.shared) (does (Store (w.shared + p) x) (done l)) (done (with_adjoint w p x l))
 
 -- an addition to a cell: in one step, or by a load and a bump
 abbrev pub addition : {A : Type 0} → Bool → ℕ → ℕ → A → Tree A
 addition true q a l = does (Add q a) (done l)
 addition false q a l = loads q (λ x. does (Bump q a) (done l))
 
-abbrev pub increment_value : World → Bool → ℕ → ℕ → Local → Tree Local
-increment_value w atomic p a l = cond (nat_lt p w.shared) (addition atomic p a l) (done (with_value w p (ring_add (slice_index l.values (p - w.shared)) a) l))
+abbrev pub value_increment : World → Bool → ℕ → ℕ → Local → Tree Local
+value_increment w atomic p a l = cond (nat_lt p w.shared) (addition atomic p a l) (done (with_value w p (ring_add (slice_index l.values (p - w.shared)) a) l))
 
 -- a Reduction's additions are collected later on
 abbrev pub is_one_step : Choice → Bool
@@ -65,8 +65,8 @@ is_reduction Reduction = true
 is_reduction Shared = false
 is_reduction Atomic = false
 
-abbrev pub increment_adjoint : World → Choice → ℕ → ℕ → Local → Tree Local
-increment_adjoint w c p a l = cond (nat_lt p w.shared) (addition (is_one_step c) (w.shared + p) a l) (done (with_adjoint w p (ring_add (slice_index l.adjoints (p - w.shared)) a) l))
+abbrev pub adjoint_increment : World → Choice → ℕ → ℕ → Local → Tree Local
+adjoint_increment w c p a l = cond (nat_lt p w.shared) (addition (is_one_step c) (w.shared + p) a l) (done (with_adjoint w p (ring_add (slice_index l.adjoints (p - w.shared)) a) l))
 
 -- in a turn of a sequential loop
 abbrev pub in_turn : World → List ℕ → World

@@ -1,4 +1,6 @@
 ghost use Rattle.transposition.specs.Answer.{ReverseIsTransposed};
+ghost use Rattle.transposition.specs.Programs.{ProgramIsTransposed};
+ghost use Rattle.transposition.specs.Typed.{WellKindedIsTyped};
 ghost use Rattle.transposition.specs.Unstopped.{UnstoppedIsCalm};
 ghost use Rattle.transposition.specs.Undone.{StatementsAreUndone};
 ghost use Rattle.transposition.specs.Discipline.{IterationsAreDisciplined};
@@ -24,4 +26,14 @@ pub fn statements_are_undone()
 /// in chunks and in any order.
 pub fn iterations_are_disciplined()
     ensures { IterationsAreDisciplined }
+{}
+
+/// The reverse part of a program whose run nothing stops leaves the program's adjoints.
+pub fn program_is_transposed()
+    ensures { ProgramIsTransposed }
+{}
+
+/// A well-kinded expression meets what the law asks of kinds.
+pub fn well_kinded_is_typed()
+    ensures { WellKindedIsTyped }
 {}

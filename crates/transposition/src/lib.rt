@@ -4,5 +4,6 @@
 mod laws;
 
 pub use laws::{
-    iterations_are_disciplined, reverse_is_transposed, statements_are_undone, unstopped_is_calm,
+    iterations_are_disciplined, program_is_transposed, reverse_is_transposed,
+    statements_are_undone, unstopped_is_calm, well_kinded_is_typed,
 };
