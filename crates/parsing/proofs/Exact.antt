@@ -5,7 +5,7 @@ use Rattle.parsing.specs.declared.fault.Cause.{Cause}
 use Rattle.parsing.specs.declared.fault.Cause.TheVariants.{Expected}
 use Rattle.parsing.specs.declared.fault.Fault.{Fault}
 use Rattle.parsing.specs.Freed.{Freed, Frees, frees}
-use Rattle.parsing.specs.Freed.Freed.{Nothing, Counts, All}
+use Rattle.parsing.specs.Freed.Freed.{Nothing, Counts, All, Repeats}
 use Rattle.parsing.specs.Limit.{Limit, allows, less as fewer}
 use Rattle.parsing.specs.Reading.{◌>>=◌ as ◌▷◌, Lexemes, Outcome, Parser, and_then, sees, fault, choose, within, token, taken, pure}
 use Rattle.parsing.specs.Grammar.{◌>>=◌ as ◌⨟◌, Grammar, gives, one, ◌or◌, where_}
@@ -42,6 +42,7 @@ pub expected_stays : (l : Freed) → frees l Expected ≡ false
 expected_stays Nothing = refl
 expected_stays Counts = refl
 expected_stays All = refl
+expected_stays Repeats = refl
 
 -- ---- nothing
 

@@ -26,7 +26,7 @@ symbol_at (a ∷ as_) zero = a
 symbol_at (a ∷ as_) (suc n) = symbol_at as_ n
 
 abbrev all : List Symbol
-all = s.Name ∷ s.Number ∷ s.Four ∷ s.Eight ∷ s.Open ∷ s.Close ∷ s.Comma ∷ s.Equals ∷ s.Plus ∷ s.Minus ∷ s.Star ∷ s.Slash ∷ s.Power ∷ s.Colon ∷ s.Colons ∷ s.Equal ∷ s.Unequal ∷ s.Less ∷ s.AtMost ∷ s.Greater ∷ s.AtLeast ∷ s.And ∷ s.Or ∷ s.Not ∷ s.If ∷ s.Do ∷ s.Else ∷ s.ElseIf ∷ s.End ∷ s.EndDo ∷ s.EndIf ∷ s.EndSubroutine ∷ s.Call ∷ s.Integer ∷ s.Subroutine ∷ s.Implicit ∷ s.Max ∷ s.Min ∷ s.Abs ∷ s.Mod ∷ s.Merge ∷ s.Int ∷ s.NoneWord ∷ s.Kind ∷ s.Intent ∷ s.In ∷ s.Out ∷ s.InOut ∷ s.Then ∷ s.Parallel ∷ s.Atomic ∷ s.Update ∷ s.Private ∷ s.FirstPrivate ∷ s.Shared ∷ s.Reduction ∷ s.Default ∷ s.Schedule ∷ s.Static ∷ s.Dynamic ∷ s.Guided ∷ s.Auto ∷ s.Runtime ∷ s.FormadPush ∷ s.FormadPop ∷ s.FormadOpen ∷ s.FormadClose ∷ s.Construct ∷ s.Sentinel ∷ s.LineEnd ∷ s.Other ∷ []
+all = s.Name ∷ s.Number ∷ s.Four ∷ s.Eight ∷ s.Open ∷ s.Close ∷ s.Comma ∷ s.Equals ∷ s.Plus ∷ s.Minus ∷ s.Star ∷ s.Slash ∷ s.Power ∷ s.Colon ∷ s.Colons ∷ s.Equal ∷ s.Unequal ∷ s.Less ∷ s.AtMost ∷ s.Greater ∷ s.AtLeast ∷ s.And ∷ s.Or ∷ s.Not ∷ s.If ∷ s.Do ∷ s.Else ∷ s.ElseIf ∷ s.End ∷ s.EndDo ∷ s.EndIf ∷ s.EndSubroutine ∷ s.Call ∷ s.Integer ∷ s.Subroutine ∷ s.Implicit ∷ s.Max ∷ s.Min ∷ s.Abs ∷ s.Mod ∷ s.Merge ∷ s.Int ∷ s.NoneWord ∷ s.Kind ∷ s.Intent ∷ s.In ∷ s.Out ∷ s.InOut ∷ s.Then ∷ s.Parallel ∷ s.Atomic ∷ s.Update ∷ s.Private ∷ s.FirstPrivate ∷ s.Shared ∷ s.Reduction ∷ s.Default ∷ s.Schedule ∷ s.Static ∷ s.Dynamic ∷ s.Guided ∷ s.Auto ∷ s.Runtime ∷ s.Collapse ∷ s.FormadPush ∷ s.FormadPop ∷ s.FormadOpen ∷ s.FormadClose ∷ s.Construct ∷ s.Sentinel ∷ s.LineEnd ∷ s.Other ∷ []
 
 back : (a : Symbol) → symbol_at all (code a) ≡ a
 back s.Name = refl
@@ -92,6 +92,7 @@ back s.Dynamic = refl
 back s.Guided = refl
 back s.Auto = refl
 back s.Runtime = refl
+back s.Collapse = refl
 back s.FormadPush = refl
 back s.FormadPop = refl
 back s.FormadOpen = refl
@@ -173,6 +174,7 @@ example_is s.Dynamic = refl
 example_is s.Guided = refl
 example_is s.Auto = refl
 example_is s.Runtime = refl
+example_is s.Collapse = refl
 example_is s.FormadPush = refl
 example_is s.FormadPop = refl
 example_is s.FormadOpen = refl

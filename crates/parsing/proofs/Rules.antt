@@ -110,7 +110,7 @@ module _ {A : Type 0} (l : Freed) (test before after : Lexeme → Bool) (room ro
     (rooms : (left : A) → Room l cause (room left) (room2 left))
     (exact : (left : A) → Exact l (step left) before (read left) (read2 left))
     (begins : (left : A) → Begins (step left) test)
-    (bites : (left : A) → Bites (read2 left) test)
+    (bites : (left : A) → room left ≡ false → Bites (read2 left) test)
     (less : (rest : Lexemes) → sees after rest ≡ false → sees before rest ≡ false)
     (ends : (rest : Lexemes) → sees after rest ≡ false → sees test rest ≡ false)
     (apart : (rest : Lexemes) → sees test rest ≡ true → sees before rest ≡ false) where
@@ -125,16 +125,16 @@ module _ {A : Type 0} (l : Freed) (test before after : Lexeme → Bool) (room ro
   up_meets (suc n) left z ws rest (inl (r, (y, us, vs, s, t, e))) h =
       apart (ws ++ rest) (ap (sees test) (ap (λ v. v ++ rest) e ∙ append_assoc us vs rest) ∙ begins left y us (vs ++ rest) s)
 
-  pub many_meets : (left : A) → Meets (many (stepping room step) left) before after
-  many_meets left z ws rest (zero, g) h = ap (λ v. sees before (v ++ rest)) g.1 ∙ less rest h
-  many_meets left z ws rest (suc n, (y, us, vs, (r, s), t, e)) h =
+  pub many_meets_by : (left : A) → Meets (many (stepping room step) left) before after
+  many_meets_by left z ws rest (zero, g) h = ap (λ v. sees before (v ++ rest)) g.1 ∙ less rest h
+  many_meets_by left z ws rest (suc n, (y, us, vs, (r, s), t, e)) h =
       apart (ws ++ rest) (ap (sees test) (ap (λ v. v ++ rest) e ∙ append_assoc us vs rest) ∙ begins left y us (vs ++ rest) s)
 
   up_exact : (n : ℕ) (left : A) → Exact l (up_to n left) after (turns test room cause read n left) (turns test room2 cause read2 n left)
   up_exact zero left = anywhere (pure_exact left)
   up_exact (suc n) left = either_within (room left) (room2 left) cause (rooms left)
       (λ r. seq (exact left) (λ y. up_exact n y) (up_meets n))
-      (λ no yes. bites_seq (read2 left) (turns test room2 cause read2 n) test (bites left) (λ y. (up_exact n y).shrinks))
+      (λ no yes. bites_seq (read2 left) (turns test room2 cause read2 n) test (bites left no) (λ y. (up_exact n y).shrinks))
       (anywhere (pure_exact left)) (begins_seq (up_to n) (begins left)) (gives_meets left test after ends)
 
   many_of : (n : ℕ) (left x : A) (us : Lexemes) → up_to n left x us → many (stepping room step) left x us
@@ -181,8 +181,8 @@ module _ {A : Type 0} (l : Freed) (test before after : Lexeme → Bool) (room ro
       inside true next = after_step next (read left ts) refl
       inside false next = refl
 
-  pub loop_exact : (left : A) → Exact l (many (stepping room step) left) after (loop test room cause read left) (loop test room2 cause read2 left)
-  loop_exact left = record {
+  pub loop_exact_by : (left : A) → Exact l (many (stepping room step) left) after (loop test room cause read left) (loop test room2 cause read2 left)
+  loop_exact_by left = record {
     some = (left, [], (0, (refl, refl)));
     takes = λ ts rest x e.
         let n = (up_exact (length ts) left).takes ts rest x e in
@@ -225,6 +225,21 @@ module _ {A : Type 0} (l : Freed) (test before after : Lexeme → Bool) (room ro
           let sizes : length (done ++ r) ≡ length done + length r = length-append done r in
           enough (length (done ++ r)) k left (done ++ r) (omega arith) (omega arith)
           ∙ ap (λ v. turns test room cause read k left (v ++ r)) (sym split.0) ∙ m.4 r (h ∙ ap first (sym split.1))
+
+-- the same where a step takes its first token always
+module _ {A : Type 0} (l : Freed) (test before after : Lexeme → Bool) (room room2 : A → Bool) (cause : Cause) (step : A → Grammar A) (read read2 : A → Parser A)
+    (rooms : (left : A) → Room l cause (room left) (room2 left))
+    (exact : (left : A) → Exact l (step left) before (read left) (read2 left))
+    (begins : (left : A) → Begins (step left) test)
+    (bites : (left : A) → Bites (read2 left) test)
+    (less : (rest : Lexemes) → sees after rest ≡ false → sees before rest ≡ false)
+    (ends : (rest : Lexemes) → sees after rest ≡ false → sees test rest ≡ false)
+    (apart : (rest : Lexemes) → sees test rest ≡ true → sees before rest ≡ false) where
+  pub many_meets : (left : A) → Meets (many (stepping room step) left) before after
+  many_meets = many_meets_by l test before after room room2 cause step read read2 rooms exact begins (λ left _. bites left) less ends apart
+
+  pub loop_exact : (left : A) → Exact l (many (stepping room step) left) after (loop test room cause read left) (loop test room2 cause read2 left)
+  loop_exact = loop_exact_by l test before after room room2 cause step read read2 rooms exact begins (λ left _. bites left) less ends apart
 
 shrinks_turns : {A : Type 0} (test : Lexeme → Bool) (room : A → Bool) (cause : Cause) (step : A → Parser A) → ((x : A) → Shrinks (step x)) → (n : ℕ) (left : A) → Shrinks (turns test room cause step n left)
 shrinks_turns test room cause step steps zero left ts = shrinks_pure left ts

@@ -69,6 +69,7 @@ example s.Dynamic = record { line = 1; kind = kind.Word; bytes = codes "dynamic"
 example s.Guided = record { line = 1; kind = kind.Word; bytes = codes "guided" }
 example s.Auto = record { line = 1; kind = kind.Word; bytes = codes "auto" }
 example s.Runtime = record { line = 1; kind = kind.Word; bytes = codes "runtime" }
+example s.Collapse = record { line = 1; kind = kind.Word; bytes = codes "collapse" }
 example s.FormadPush = record { line = 1; kind = kind.Word; bytes = codes "formad_push" }
 example s.FormadPop = record { line = 1; kind = kind.Word; bytes = codes "formad_pop" }
 example s.FormadOpen = record { line = 1; kind = kind.Word; bytes = codes "formad_open" }

@@ -75,14 +75,15 @@ code s.Dynamic = 59
 code s.Guided = 60
 code s.Auto = 61
 code s.Runtime = 62
-code s.FormadPush = 63
-code s.FormadPop = 64
-code s.FormadOpen = 65
-code s.FormadClose = 66
-code s.Construct = 67
-code s.Sentinel = 68
-code s.LineEnd = 69
-code s.Other = 70
+code s.Collapse = 63
+code s.FormadPush = 64
+code s.FormadPop = 65
+code s.FormadOpen = 66
+code s.FormadClose = 67
+code s.Construct = 68
+code s.Sentinel = 69
+code s.LineEnd = 70
+code s.Other = 71
 
 abbrev pub same : Symbol → Symbol → Bool
 same a b = code a == code b
@@ -141,6 +142,7 @@ names s.Dynamic = true
 names s.Guided = true
 names s.Auto = true
 names s.Runtime = true
+names s.Collapse = true
 names s.FormadPush = true
 names s.FormadPop = true
 names s.FormadOpen = true

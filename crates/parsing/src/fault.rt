@@ -62,3 +62,14 @@ pub enum ClauseError {
     #[error("no memory")]
     Memory,
 }
+
+impl From<Memory> for ClauseError {
+    ghost use Rattle.std.specs.Prelude.{◌≡◌};
+    ghost use Rattle.parsing.specs.declared.fault.ClauseError.TheVariants.{Memory as wanting};
+
+    ghost from_gives = { λ _ e. e ≡ wanting };
+
+    fn from(_: Memory) -> ClauseError {
+        ClauseError::Memory
+    }
+}

@@ -80,6 +80,7 @@ pub enum Symbol {
     Guided,
     Auto,
     Runtime,
+    Collapse,
     FormadPush,
     FormadPop,
     FormadOpen,
@@ -126,7 +127,7 @@ static DOTS: [(&[u8], Symbol); 9] = [
     (b".not.", Symbol::Not),
 ];
 
-static WORDS: [(&[u8], Symbol); 74] = [
+static WORDS: [(&[u8], Symbol); 75] = [
     (b"if", Symbol::If),
     (b"do", Symbol::Do),
     (b"else", Symbol::Else),
@@ -166,6 +167,7 @@ static WORDS: [(&[u8], Symbol); 74] = [
     (b"guided", Symbol::Guided),
     (b"auto", Symbol::Auto),
     (b"runtime", Symbol::Runtime),
+    (b"collapse", Symbol::Collapse),
     (b"formad_push", Symbol::FormadPush),
     (b"formad_pop", Symbol::FormadPop),
     (b"formad_open", Symbol::FormadOpen),
@@ -271,6 +273,7 @@ impl Symbol {
                 | Symbol::Guided
                 | Symbol::Auto
                 | Symbol::Runtime
+                | Symbol::Collapse
                 | Symbol::FormadPush
                 | Symbol::FormadPop
                 | Symbol::FormadOpen

@@ -1,0 +1,9 @@
+pub mod ClauseExact
+pub mod LineExact
+pub mod Names
+pub mod Places
+pub mod Readables
+pub mod Seens
+pub mod Spans
+pub mod Tells
+pub mod Turns
