@@ -1,6 +1,5 @@
 -- Clauses are read exactly.
-use Rattle.std.proofs.Common.{◌≡◌, ℕ, Bool, true, false, not, ◌&&◌, List, [], ◌∷◌, Option, Some, None, refl}
-use Rattle.fl_ast.specs.declared.directive.ScheduleKind.{ScheduleKind}
+use Rattle.std.proofs.Common.{Bool, true, not, ◌&&◌, [], ◌∷◌, Some, None, refl}
 use Rattle.fl_ast.specs.declared.directive.ScheduleKind.TheVariants as schedule
 use Rattle.tokens.specs.declared.TokenKind.TheVariants.{Number as number_kind}
 use Rattle.parsing.specs.declared.symbol.Symbol.{Symbol}
@@ -8,8 +7,8 @@ use Rattle.parsing.specs.declared.symbol.Symbol.TheVariants as s
 use Rattle.parsing.specs.declared.fault.Cause.TheVariants.{Expected, Twice}
 use Rattle.parsing.specs.Example.{example}
 use Rattle.parsing.specs.Freed.{Freed}
-use Rattle.parsing.specs.Terminal.{same, on, is, reads, numbers, number}
-use Rattle.parsing.specs.Reading.{Lexemes, sees, token}
+use Rattle.parsing.specs.Terminal.{same, on, is, reads}
+use Rattle.parsing.specs.Reading.{token}
 use Rattle.parsing.specs.Grammar.{one}
 use Rattle.omp_clauses.specs.declared.state.Sharing.{Sharing}
 use Rattle.omp_clauses.specs.declared.state.Sharing.TheVariants.{Private, Plus}
@@ -21,7 +20,7 @@ use Rattle.omp_clauses.specs.ClauseReading as p
 use Rattle.parsing.proofs.Outcomes.{never, differ, sees-never, shrinks_pure, shrinks_seq, Bites}
 use Rattle.parsing.proofs.Exact.{Exact, always_room, Begins, pure_exact, seq, token_exact, shrinks_token, either_within}
 use Rattle.parsing.proofs.Rules.{anywhere, either, optional, mapped, loop_exact, loop_exact_by, begins_seq, begins_or, begins_where, meets_never}
-use Rattle.parsing.proofs.OnSymbols.{less, among, meets, begins_in, begins_mark, begins_by, by_exact, mark_then, bites_mark}
+use Rattle.parsing.proofs.OnSymbols.{among, meets, begins_in, begins_mark, begins_by, by_exact, mark_then, bites_mark}
 use Rattle.omp_clauses.proofs.Names.{new_exact, new_shrinks, once_room}
 
 -- ---- clauses that stand once

@@ -1,5 +1,5 @@
 -- Directives are read exactly.
-use Rattle.std.proofs.Common.{◌≡◌, ℕ, Bool, List, [], ◌∷◌, refl}
+use Rattle.std.proofs.Common.{ℕ, Bool, [], ◌∷◌, refl}
 use Rattle.parsing.specs.declared.symbol.Symbol.{Symbol}
 use Rattle.parsing.specs.declared.symbol.Symbol.TheVariants as s
 use Rattle.parsing.specs.Freed.{Freed}
@@ -12,7 +12,7 @@ use Rattle.omp_clauses.specs.LineGrammar as g
 use Rattle.omp_clauses.specs.LineReading as p
 use Rattle.parsing.proofs.Outcomes.{never}
 use Rattle.parsing.proofs.Exact.{Exact, Begins, pure_exact, seq}
-use Rattle.parsing.proofs.Rules.{either, mapped, begins_seq, begins_or, meets_never}
+use Rattle.parsing.proofs.Rules.{either, mapped, begins_seq, begins_or}
 use Rattle.parsing.proofs.OnSymbols.{among, meets, begins_in, begins_mark, mark_exact, mark_then}
 use Rattle.omp_clauses.proofs.ClauseExact.{clauses_exact}
 
@@ -22,25 +22,49 @@ after_atomic_exact l = either (mark_then s.Update _ _ _ (λ _. mark_exact s.Line
     (meets (same s.LineEnd) (same s.Update) never _ (begins_mark s.LineEnd) refl refl)
 
 -- an atomic statement's line, from the word on
-pub atomic_exact : (l : Freed) → Exact l g.atomic_line never p.atomic_line p.atomic_line
-unfolding g.atomic_line p.atomic_line
-atomic_exact l = mark_then s.Atomic _ _ _ (λ _. mapped (after_atomic_exact l) (λ _. Atomic))
+pub atomic_exact : (l : Freed) → Exact l g.atomic never p.atomic p.atomic
+unfolding g.atomic p.atomic
+atomic_exact l = mark_then s.Atomic _ _ _ (λ _. after_atomic_exact l)
 
-pub atomic_begins : Begins g.atomic_line (is s.Atomic)
-unfolding g.atomic_line
+pub atomic_begins : Begins g.atomic (is s.Atomic)
+unfolding g.atomic
 atomic_begins = begins_seq _ (begins_mark s.Atomic)
+
+atomic_line_exact : (l : Freed) → Exact l g.atomic_line never p.atomic_line p.atomic_line
+unfolding g.atomic_line p.atomic_line
+atomic_line_exact l = mapped (atomic_exact l) (λ _. Atomic)
+
+atomic_line_begins : Begins g.atomic_line (is s.Atomic)
+unfolding g.atomic_line
+atomic_line_begins = begins_seq _ atomic_begins
+
+-- the end of a parallel loop and of an atomic statement, behind the word `end`
+pub end_parallel_exact : (l : Freed) → Exact l g.end_parallel_do never p.end_parallel_do p.end_parallel_do
+unfolding g.end_parallel_do p.end_parallel_do
+end_parallel_exact l = mark_then s.Parallel _ _ _ (λ _. mark_then s.Do _ _ _ (λ _. mark_exact s.LineEnd))
+
+pub end_parallel_begins : Begins g.end_parallel_do (is s.Parallel)
+unfolding g.end_parallel_do
+end_parallel_begins = begins_seq _ (begins_mark s.Parallel)
+
+pub end_atomic_exact : (l : Freed) → Exact l g.end_atomic never p.end_atomic p.end_atomic
+unfolding g.end_atomic p.end_atomic
+end_atomic_exact l = mark_then s.Atomic _ _ _ (λ _. mark_exact s.LineEnd)
+
+pub end_atomic_begins : Begins g.end_atomic (is s.Atomic)
+unfolding g.end_atomic
+end_atomic_begins = begins_seq _ (begins_mark s.Atomic)
 
 after_end_exact : (l : Freed) → Exact l g.after_end never p.after_end p.after_end
 unfolding g.after_end p.after_end
-after_end_exact l = either (mark_then s.Parallel _ _ _ (λ _. mark_then s.Do _ _ _ (λ _. mark_then s.LineEnd _ _ _ (λ _. pure_exact EndParallelDo))))
-    (mark_then s.Atomic _ _ _ (λ _. mark_then s.LineEnd _ _ _ (λ _. pure_exact EndAtomic))) (begins_seq _ (begins_mark s.Parallel))
-    (meets (same s.Atomic) (same s.Parallel) never _ (begins_seq _ (begins_mark s.Atomic)) refl refl)
+after_end_exact l = either (mapped (end_parallel_exact l) (λ _. EndParallelDo)) (mapped (end_atomic_exact l) (λ _. EndAtomic)) (begins_seq _ end_parallel_begins)
+    (meets (same s.Atomic) (same s.Parallel) never _ (begins_seq _ end_atomic_begins) refl refl)
 
-pub end_exact : (l : Freed) → Exact l g.end_line never p.end_line p.end_line
+end_exact : (l : Freed) → Exact l g.end_line never p.end_line p.end_line
 unfolding g.end_line p.end_line
 end_exact l = mark_then s.End _ _ _ (λ _. after_end_exact l)
 
-pub end_begins : Begins g.end_line (is s.End)
+end_begins : Begins g.end_line (is s.End)
 unfolding g.end_line
 end_begins = begins_seq _ (begins_mark s.End)
 
@@ -70,8 +94,8 @@ module _ (l : Freed) (once wide : Bool) (O : Onces l once wide) where
   after_sentinel_exact : (line : ℕ) → Exact l (g.after_sentinel once line) never (p.after_sentinel once line) (p.after_sentinel wide line)
   unfolding g.after_sentinel p.after_sentinel
   after_sentinel_exact line =
-      let atomic_last = either (end_exact l) (atomic_exact l) end_begins (meets (same s.Atomic) (same s.End) never _ atomic_begins refl refl) in
-      let ends_begin = begins_or _ _ (on ends) (begins_in (same s.End) ends _ end_begins refl refl) (begins_in (same s.Atomic) ends _ atomic_begins refl refl) in
+      let atomic_last = either (end_exact l) (atomic_line_exact l) end_begins (meets (same s.Atomic) (same s.End) never _ atomic_line_begins refl refl) in
+      let ends_begin = begins_or _ _ (on ends) (begins_in (same s.End) ends _ end_begins refl refl) (begins_in (same s.Atomic) ends _ atomic_line_begins refl refl) in
       either (loop_line_exact line) atomic_last (loop_line_begins line) (meets ends (same s.Parallel) never _ ends_begin refl refl)
 
   pub directive_exact : Exact l (g.directive_line once) never (p.directive_line once) (p.directive_line wide)

@@ -1,29 +1,26 @@
 -- A name is read exactly, where it stands once only and where it doesn't.
-use Rattle.std.proofs.Common.{◌≡◌, ℕ, ◌+◌, ◌<◌, Bool, true, false, cond, not, ◌&&◌, ◌||◌, List, [], ◌∷◌, ◌++◌, length, Option, Some, None, Ok, Err, refl, sym, ap, subst, ◌∙◌, ◌⊎◌, inl, inr, bytes_eq, arith}
+use Rattle.std.proofs.Common.{◌≡◌, ℕ, ◌+◌, ◌<◌, Bool, true, false, cond, not, ◌&&◌, ◌||◌, List, [], ◌∷◌, ◌++◌, length, Option, Some, None, Ok, Err, refl, sym, ap, subst, ◌∙◌, inl, inr, bytes_eq, arith}
 use Rattle.std.specs.List.{list_any}
 use Rattle.std.proofs.lemmas.Slice.Eq.{bytes_eq-Decides}
 use Rattle.tokens.specs.declared.TokenKind.TheVariants as kind
 use Rattle.tokens.specs.Lexeme.{Lexeme}
 use Rattle.fl_ast.specs.Readable.{listed_names}
-use Rattle.parsing.specs.declared.symbol.Symbol.{Symbol}
-use Rattle.parsing.specs.declared.symbol.Symbol.TheVariants as s
 use Rattle.parsing.specs.declared.cursor.Word.{Word}
-use Rattle.parsing.specs.declared.fault.Cause.{Cause}
 use Rattle.parsing.specs.declared.fault.Cause.TheVariants.{Expected, Twice}
 use Rattle.parsing.specs.declared.fault.Fault.{Fault}
 use Rattle.parsing.specs.declared.fault.Failure.{Failure}
 use Rattle.parsing.specs.declared.fault.Failure.TheVariants.{Memory, Refused}
 use Rattle.parsing.specs.Code.{Fails}
 use Rattle.parsing.specs.Freed.{Freed, frees}
-use Rattle.parsing.specs.Symbol.{symbol_by, symbol_of}
+use Rattle.parsing.specs.Symbol.{symbol_by}
 use Rattle.parsing.specs.Terminal.{on, names, name, word_of}
-use Rattle.parsing.specs.Reading.{Lexemes, Outcome, fault, taken, token, sees}
+use Rattle.parsing.specs.Reading.{Lexemes, Outcome, fault, taken, token}
 use Rattle.parsing.specs.Grammar.{one}
 use Rattle.omp_clauses.specs.Said.{Said, lists}
 use Rattle.omp_clauses.specs.Terminals as t
 use Rattle.omp_clauses.specs.Once.{Onces}
 use Rattle.omp_clauses.specs.ClauseReading as p
-use Rattle.parsing.proofs.Outcomes.{first, never, which, differ, ok_value, ok_rest, ok_same, err_is, ok_err, Within, Past, Shrinks}
+use Rattle.parsing.proofs.Outcomes.{first, never, which, differ, ok_value, ok_rest, err_is, ok_err, Within, Past, Shrinks}
 use Rattle.parsing.proofs.Exact.{Exact, Room, Steady, Stuck, expected_stays}
 
 -- ---- by whether it is a name, and whether it may not stand there

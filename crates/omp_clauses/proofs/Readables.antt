@@ -1,8 +1,7 @@
 -- What is in the grammar is readable.
-use Rattle.std.proofs.Common.{◌≡◌, ℕ, zero, suc, Bool, true, false, cond, not, ◌&&◌, ◌||◌, nat_le, ◌==◌, List, [], ◌∷◌, ◌++◌, map, Option, Some, None, refl, sym, ap, subst, ◌∙◌, ◌⊎◌, inl, inr, bytes_eq, eqb-true}
+use Rattle.std.proofs.Common.{◌≡◌, ℕ, zero, suc, Bool, true, false, cond, not, ◌&&◌, ◌||◌, nat_le, ◌==◌, List, [], ◌∷◌, ◌++◌, map, Option, Some, None, refl, sym, ap, subst, ◌∙◌, inl, inr, bytes_eq, eqb-true}
 use Rattle.std.specs.List.{list_all, list_any}
 use Rattle.std.proofs.lemmas.Slice.Eq.{bytes_eq-Decides}
-use Rattle.fl_base.specs.Spelling.{is_name}
 use Rattle.tokens.specs.declared.TokenKind.{TokenKind}
 use Rattle.tokens.specs.declared.TokenKind.TheVariants.{Word as word_kind, Number as number_kind, Mark, Dots, Sentinel, LineEnd}
 use Rattle.tokens.specs.declared.Token.{Token}
@@ -12,12 +11,11 @@ use Rattle.fl_ast.specs.Words.{reserved_words}
 use Rattle.fl_ast.specs.declared.directive.ScheduleKind.{ScheduleKind}
 use Rattle.fl_ast.specs.declared.directive.ScheduleKind.TheVariants as schedule
 use Rattle.fl_ast.specs.Readable.{is_variable, are_apart, is_readable_chunk, is_readable_schedule, listed_names, has_readable_clauses}
-use Rattle.parsing.specs.declared.symbol.Symbol.{Symbol}
 use Rattle.parsing.specs.declared.symbol.Symbol.TheVariants as s
 use Rattle.parsing.specs.declared.cursor.Word.{Word}
 use Rattle.parsing.specs.declared.cursor.Number.{Number}
 use Rattle.parsing.specs.Symbol.{look_up, words as word_table, kind_numbers, marks, dot_words, symbol_by, symbol_of}
-use Rattle.parsing.specs.Terminal.{on, by, some, reads, names, name, number, word_of}
+use Rattle.parsing.specs.Terminal.{on, by, some, reads, names, number, word_of}
 use Rattle.parsing.specs.Reading.{Lexemes}
 use Rattle.parsing.specs.Grammar.{Grammar, gives, one, times, many, ◌or◌, where_, ◌>>=◌ as ◌⨟◌}
 use Rattle.omp_clauses.specs.declared.state.Sharing.{Sharing}
@@ -25,7 +23,7 @@ use Rattle.omp_clauses.specs.declared.state.Sharing.TheVariants.{Private, First,
 use Rattle.omp_clauses.specs.declared.directive.DirectiveLine.{DirectiveLine}
 use Rattle.omp_clauses.specs.declared.directive.DirectiveLine.TheVariants.{ParallelDo, EndParallelDo, Atomic, EndAtomic}
 use Rattle.omp_clauses.specs.Said.{Said, nothing, lists, with_name, with_default, with_schedule, with_collapse}
-use Rattle.omp_clauses.specs.Terminals.{sharing_by, chunked_by, unchunked_by, value_where, is_chunk, chunk, has_ring_suffix, is_loop_count, loop_count, new_name}
+use Rattle.omp_clauses.specs.Terminals.{chunked_by, value_where, is_chunk, chunk, has_ring_suffix, is_loop_count, loop_count, new_name}
 use Rattle.omp_clauses.specs.ClauseGrammar as g
 use Rattle.omp_clauses.specs.LineGrammar as g2
 use Rattle.omp_clauses.specs.Refused.{is_readable_line}
@@ -303,9 +301,8 @@ holds_line : Holds (g2.directive_line true) IsReadableLine
 unfolding g2.directive_line g2.after_sentinel g2.loop_line g2.end_line g2.after_end g2.atomic_line
 holds_line = holds_then _ _ _ (λ line. holds_or _ _ _ (holds_bind _ _ (λ d. has_readable_clauses d ≡ true) _ (holds_parallel line) (λ d h. holds_gives (ParallelDo d) IsReadableLine h))
     (holds_or _ _ _
-    (holds_then _ _ _ (λ _. holds_or _ _ _ (holds_then _ _ _ (λ _. holds_then _ _ _ (λ _. holds_then _ _ _ (λ _. holds_gives EndParallelDo IsReadableLine refl))))
-    (holds_then _ _ _ (λ _. holds_then _ _ _ (λ _. holds_gives EndAtomic IsReadableLine refl)))))
-    (holds_then _ _ _ (λ _. holds_then _ _ _ (λ _. holds_gives Atomic IsReadableLine refl)))))
+    (holds_then _ _ _ (λ _. holds_or _ _ _ (holds_then _ _ _ (λ _. holds_gives EndParallelDo IsReadableLine refl)) (holds_then _ _ _ (λ _. holds_gives EndAtomic IsReadableLine refl))))
+    (holds_then _ _ _ (λ _. holds_gives Atomic IsReadableLine refl))))
 
 pub line_readable : (text : List ℕ) (tokens : List Token) (d : DirectiveLine) → AreSpelled text 0 tokens → g2.directive_line true d (map (lexeme text) tokens) → is_readable_line d ≡ true
 line_readable text tokens d spelled n = holds_line d (map (lexeme text) tokens) (lexemes_spelled text 0 tokens spelled) n

@@ -10,7 +10,7 @@ use Rattle.parsing.specs.declared.fault.Cause.TheVariants.{Expected, Deep, Many,
 use Rattle.parsing.specs.declared.fault.Fault.{Fault}
 use Rattle.parsing.specs.declared.fault.ClauseError.{ClauseError}
 use Rattle.parsing.specs.declared.fault.ClauseError.TheVariants.{Memory}
-use Rattle.parsing.specs.Freed.{Freed, frees}
+use Rattle.parsing.specs.Freed.{frees}
 use Rattle.parsing.specs.Freed.Freed.{Nothing, Repeats}
 use Rattle.parsing.specs.Reading.{Lexemes}
 use Rattle.parsing.specs.Refusal.{all_of}

@@ -1,5 +1,5 @@
 -- The grammar of clauses.
-use Rattle.std.specs.Prelude.{ℕ, Bool, true, false, not, ◌&&◌, Option, Some, None}
+use Rattle.std.specs.Prelude.{ℕ, Bool, true, not, ◌&&◌, Option, Some, None}
 use Rattle.fl_ast.specs.declared.directive.ScheduleKind.{ScheduleKind}
 use Rattle.parsing.specs.declared.symbol.Symbol.TheVariants as s
 use Rattle.parsing.specs.Terminal.{marked, by}

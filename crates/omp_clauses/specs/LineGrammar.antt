@@ -32,25 +32,39 @@ after_atomic =
     or one (marked s.LineEnd)
 
 -- "atomic" [ "update" ] eol
+unfoldable pub atomic : Grammar ℕ
+atomic = do
+  atomic ← one (marked s.Atomic)
+  after_atomic
+
 unfoldable pub atomic_line : Grammar DirectiveLine
 atomic_line = do
-  atomic ← one (marked s.Atomic)
-  eol ← after_atomic
+  eol ← atomic
   gives Atomic
 
--- "parallel" "do" eol | "atomic" eol
+-- "parallel" "do" eol, behind "end"
+unfoldable pub end_parallel_do : Grammar ℕ
+end_parallel_do = do
+  parallel ← one (marked s.Parallel)
+  do_ ← one (marked s.Do)
+  one (marked s.LineEnd)
+
+-- "atomic" eol, behind "end"
+unfoldable pub end_atomic : Grammar ℕ
+end_atomic = do
+  atomic ← one (marked s.Atomic)
+  one (marked s.LineEnd)
+
 unfoldable pub after_end : Grammar DirectiveLine
 after_end =
     (do
-      parallel ← one (marked s.Parallel)
-      do_ ← one (marked s.Do)
-      eol ← one (marked s.LineEnd)
+      eol ← end_parallel_do
       gives EndParallelDo)
     or (do
-      atomic ← one (marked s.Atomic)
-      eol ← one (marked s.LineEnd)
+      eol ← end_atomic
       gives EndAtomic)
 
+-- "end" ("parallel" "do" | "atomic") eol
 unfoldable pub end_line : Grammar DirectiveLine
 end_line = do
   end ← one (marked s.End)

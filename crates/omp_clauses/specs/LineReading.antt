@@ -29,22 +29,34 @@ after_atomic = choose (is s.Update)
       token (marked s.LineEnd))
     (token (marked s.LineEnd))
 
+unfoldable pub atomic : Parser ℕ
+atomic = do
+  atomic ← token (marked s.Atomic)
+  after_atomic
+
 unfoldable pub atomic_line : Parser DirectiveLine
 atomic_line = do
-  atomic ← token (marked s.Atomic)
-  eol ← after_atomic
+  eol ← atomic
   pure Atomic
+
+unfoldable pub end_parallel_do : Parser ℕ
+end_parallel_do = do
+  parallel ← token (marked s.Parallel)
+  do_ ← token (marked s.Do)
+  token (marked s.LineEnd)
+
+unfoldable pub end_atomic : Parser ℕ
+end_atomic = do
+  atomic ← token (marked s.Atomic)
+  token (marked s.LineEnd)
 
 unfoldable pub after_end : Parser DirectiveLine
 after_end = choose (is s.Parallel)
     (do
-      parallel ← token (marked s.Parallel)
-      do_ ← token (marked s.Do)
-      eol ← token (marked s.LineEnd)
+      eol ← end_parallel_do
       pure EndParallelDo)
     (do
-      atomic ← token (marked s.Atomic)
-      eol ← token (marked s.LineEnd)
+      eol ← end_atomic
       pure EndAtomic)
 
 unfoldable pub end_line : Parser DirectiveLine

@@ -1,5 +1,5 @@
 -- Directives as they are read, and what a refusal tells.
-use Rattle.std.specs.Prelude.{◌≡◌, ℕ, ◌+◌, ◌-◌, ◌==◌, Bool, true, false, not, ◌&&◌, if◌then◌else◌, List, [], ◌∷◌, length, map, take, slice_get, Option, Some, None, Result, Ok, Err}
+use Rattle.std.specs.Prelude.{◌≡◌, ℕ, ◌-◌, ◌==◌, Bool, true, false, not, ◌&&◌, List, [], length, map, take, slice_get, Option, Some, None, Result, Ok, Err}
 use Rattle.std.specs.List.{count_by}
 use Rattle.tokens.specs.declared.Token.{Token}
 use Rattle.tokens.specs.Lexeme.{lexeme}
@@ -10,7 +10,7 @@ use Rattle.parsing.specs.declared.fault.Cause.{Cause}
 use Rattle.parsing.specs.declared.fault.Cause.TheVariants as cause
 use Rattle.parsing.specs.declared.fault.Fault.{Fault}
 use Rattle.parsing.specs.declared.fault.ClauseError.{ClauseError}
-use Rattle.parsing.specs.declared.fault.ClauseError.TheVariants.{Unknown, Twice, Form, Memory}
+use Rattle.parsing.specs.declared.fault.ClauseError.TheVariants.{Unknown, Twice, Form}
 use Rattle.parsing.specs.Symbol.{symbol_of}
 use Rattle.parsing.specs.Terminal.{is, words}
 use Rattle.parsing.specs.Reading.{Lexemes}

@@ -50,13 +50,40 @@ fn after_atomic(tokens: &mut Cursor<'_>) -> Result<u32, Failure>
     tokens.mark(Symbol::LineEnd)
 }
 
+/// The `atomic` behind a sentinel, up to the end of its line, whose line it gives.
+#[tactic(auto, unfolding(crate::specs::LineReading::atomic))]
+pub fn atomic(tokens: &mut Cursor<'_>) -> Result<u32, Failure>
+    ensures { Reads (spec.atomic tokens.old) result tokens.new }
+{
+    let _atomic = tokens.mark(Symbol::Atomic)?;
+    after_atomic(tokens)
+}
+
 #[tactic(auto, unfolding(crate::specs::LineReading::atomic_line))]
 fn atomic_line(tokens: &mut Cursor<'_>) -> Result<DirectiveLine, Failure>
     ensures { Reads (spec.atomic_line tokens.old) result tokens.new }
 {
-    let _atomic = tokens.mark(Symbol::Atomic)?;
-    let _eol = after_atomic(tokens)?;
+    let _eol = atomic(tokens)?;
     Ok(DirectiveLine::Atomic)
+}
+
+/// The `parallel do` behind an `end`, up to the end of its line.
+#[tactic(auto, unfolding(crate::specs::LineReading::end_parallel_do))]
+pub fn end_parallel_do(tokens: &mut Cursor<'_>) -> Result<u32, Failure>
+    ensures { Reads (spec.end_parallel_do tokens.old) result tokens.new }
+{
+    let _parallel = tokens.mark(Symbol::Parallel)?;
+    let _do = tokens.mark(Symbol::Do)?;
+    tokens.mark(Symbol::LineEnd)
+}
+
+/// The `atomic` behind an `end`, up to the end of its line.
+#[tactic(auto, unfolding(crate::specs::LineReading::end_atomic))]
+pub fn end_atomic(tokens: &mut Cursor<'_>) -> Result<u32, Failure>
+    ensures { Reads (spec.end_atomic tokens.old) result tokens.new }
+{
+    let _atomic = tokens.mark(Symbol::Atomic)?;
+    tokens.mark(Symbol::LineEnd)
 }
 
 #[tactic(auto, unfolding(crate::specs::LineReading::after_end))]
@@ -64,13 +91,10 @@ fn after_end(tokens: &mut Cursor<'_>) -> Result<DirectiveLine, Failure>
     ensures { Reads (spec.after_end tokens.old) result tokens.new }
 {
     if tokens.sees(Symbol::Parallel) {
-        let _parallel = tokens.mark(Symbol::Parallel)?;
-        let _do = tokens.mark(Symbol::Do)?;
-        let _eol = tokens.mark(Symbol::LineEnd)?;
+        let _eol = end_parallel_do(tokens)?;
         return Ok(DirectiveLine::EndParallelDo);
     }
-    let _atomic = tokens.mark(Symbol::Atomic)?;
-    let _eol = tokens.mark(Symbol::LineEnd)?;
+    let _eol = end_atomic(tokens)?;
     Ok(DirectiveLine::EndAtomic)
 }
 

@@ -8,9 +8,9 @@ mod line;
 mod seen;
 mod state;
 
-pub use clause::clauses;
-pub use directive::{DirectiveLine, directive_line, parallel_do};
+pub use directive::{
+    DirectiveLine, atomic, directive_line, end_atomic, end_parallel_do, parallel_do,
+};
 pub use error::cause_at;
 pub use line::read_directive;
 pub use parsing::ClauseError;
-pub use state::Clauses;

@@ -19,11 +19,23 @@ pub enum Sharing {
 }
 
 /// What the clauses say so far.
-#[derive(Drop)]
 pub struct Clauses {
     directive: Directive,
     defaulted: bool,
     seen: Seen,
+}
+
+// Written out, so that each drop of the clauses is one call.
+impl Drop for Clauses {
+    fn drop(self) {
+        let Clauses {
+            directive,
+            defaulted: _,
+            seen,
+        } = self;
+        drop(directive);
+        drop(seen);
+    }
 }
 
 impl Model for Clauses {
@@ -140,6 +152,11 @@ impl Clauses {
     pub fn into_directive(self) -> Directive
         ensures { result ≡ self.directive }
     {
-        self.directive
+        let Clauses {
+            directive,
+            defaulted: _,
+            seen: _,
+        } = self;
+        directive
     }
 }

@@ -12,11 +12,11 @@ pub enum Cause {
     Many,
     /// A statement begins there with a word of a construct outside the language.
     Construct,
-    /// A word of a directive that begins no clause. No reader gives it yet.
+    /// A word of a directive that begins no clause. Readers give `Expected` there; it is told apart afterwards.
     Unknown,
-    /// A name or a clause of a directive that stands twice. No reader gives it yet.
+    /// A name or a clause of a directive that stands twice.
     Twice,
-    /// A token of a directive at which none goes on. No reader gives it yet.
+    /// A token of a directive at which none goes on. Readers give `Expected` there; it is told apart afterwards.
     Form,
 }
 

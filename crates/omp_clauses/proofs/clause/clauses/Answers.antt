@@ -1,6 +1,5 @@
 use Rattle.std.proofs.Common.{rules, arith, true}
 use Rattle.std.proofs.lemmas.Grind.{common_steps}
-use Rattle.parsing.specs.declared.symbol.Symbol.TheVariants as s
 use Rattle.parsing.specs.declared.fault.Cause.TheVariants.{Expected}
 use Rattle.parsing.specs.Terminal.{on}
 use Rattle.parsing.specs.Reading.{turns}

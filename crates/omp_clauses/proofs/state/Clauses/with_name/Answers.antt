@@ -1,4 +1,4 @@
-use Rattle.std.proofs.Common.{◌≡◌, ◌∙◌, ◌||◌, ap, sym, bytes_eq}
+use Rattle.std.proofs.Common.{◌∙◌, ◌||◌, ap, sym, bytes_eq}
 use Rattle.std.specs.List.{list_any}
 use Rattle.fl_ast.specs.Readable.{listed_names}
 use Rattle.omp_clauses.proofs.Places.{any_named}
