@@ -13,14 +13,14 @@ use Rattle.parsing.specs.Grammar.{one}
 use Rattle.omp_clauses.specs.declared.state.Sharing.{Sharing}
 use Rattle.omp_clauses.specs.declared.state.Sharing.TheVariants.{Private, Plus}
 use Rattle.omp_clauses.specs.Said.{Said, has_default, has_schedule, has_collapse, with_name, with_default, with_schedule, with_collapse}
-use Rattle.omp_clauses.specs.Terminals.{sharing_by, none_by, chunked_by, unchunked_by, chunk, loop_count}
+use Rattle.omp_clauses.specs.Terminals.{sharing_by, none_by, chunked_by, unchunked_by, loop_count}
 use Rattle.omp_clauses.specs.Once.{Onces}
 use Rattle.omp_clauses.specs.ClauseGrammar as g
 use Rattle.omp_clauses.specs.ClauseReading as p
 use Rattle.parsing.proofs.Outcomes.{never, differ, sees-never, shrinks_pure, shrinks_seq, Bites}
 use Rattle.parsing.proofs.Exact.{Exact, always_room, Begins, pure_exact, seq, token_exact, shrinks_token, either_within}
 use Rattle.parsing.proofs.Rules.{anywhere, either, optional, mapped, loop_exact, loop_exact_by, begins_seq, begins_or, begins_where, meets_never}
-use Rattle.parsing.proofs.OnSymbols.{among, meets, begins_in, begins_mark, begins_by, by_exact, mark_then, bites_mark}
+use Rattle.parsing.proofs.OnSymbols.{among, meets, begins_in, begins_mark, begins_by, by_exact, mark_then, bites_mark, plain_number_exact}
 use Rattle.omp_clauses.proofs.Names.{new_exact, new_shrinks, once_room}
 
 -- ---- clauses that stand once
@@ -38,12 +38,9 @@ default_bites : (c : Said) → Bites (p.default_clause c) (is s.Default)
 unfolding p.default_clause
 default_bites c = bites_mark s.Default _ (λ _. shrinks_seq _ _ (shrinks_token _) (λ _. shrinks_seq _ _ (shrinks_token _) (λ none. shrinks_seq _ _ (shrinks_token _) (λ _. shrinks_pure (with_default none c)))))
 
-chunk_exact : (l : Freed) → Exact l (one chunk) never (token chunk) (token chunk)
-chunk_exact l = token_exact chunk 0 (example s.Number) refl
-
 chunk_size_exact : (l : Freed) → Exact l g.chunk_size (is s.Comma) p.chunk_size p.chunk_size
 unfolding g.chunk_size p.chunk_size
-chunk_size_exact l = optional None (anywhere (mark_then s.Comma _ _ _ (λ _. seq (chunk_exact l) (λ n. pure_exact (Some n)) (λ n. meets_never never _)))) (begins_seq _ (begins_mark s.Comma)) (λ rest h. h)
+chunk_size_exact l = optional None (anywhere (mark_then s.Comma _ _ _ (λ _. seq (plain_number_exact 2147483647) (λ n. pure_exact (Some n.value)) (λ n. meets_never never _)))) (begins_seq _ (begins_mark s.Comma)) (λ rest h. h)
 
 chunked_exact : (l : Freed) → Exact l g.chunked (is s.Comma) p.chunked p.chunked
 unfolding g.chunked p.chunked

@@ -15,7 +15,7 @@ use Rattle.parsing.specs.declared.symbol.Symbol.TheVariants as s
 use Rattle.parsing.specs.declared.cursor.Word.{Word}
 use Rattle.parsing.specs.declared.cursor.Number.{Number}
 use Rattle.parsing.specs.Symbol.{look_up, words as word_table, kind_numbers, marks, dot_words, symbol_by, symbol_of}
-use Rattle.parsing.specs.Terminal.{on, by, some, reads, names, number, word_of}
+use Rattle.parsing.specs.Terminal.{on, by, some, reads, names, number, word_of, is_eight, without_eight, plain_number}
 use Rattle.parsing.specs.Reading.{Lexemes}
 use Rattle.parsing.specs.Grammar.{Grammar, gives, one, times, many, ◌or◌, where_, ◌>>=◌ as ◌⨟◌}
 use Rattle.omp_clauses.specs.declared.state.Sharing.{Sharing}
@@ -23,7 +23,7 @@ use Rattle.omp_clauses.specs.declared.state.Sharing.TheVariants.{Private, First,
 use Rattle.omp_clauses.specs.declared.directive.DirectiveLine.{DirectiveLine}
 use Rattle.omp_clauses.specs.declared.directive.DirectiveLine.TheVariants.{ParallelDo, EndParallelDo, Atomic, EndAtomic}
 use Rattle.omp_clauses.specs.Said.{Said, nothing, lists, with_name, with_default, with_schedule, with_collapse}
-use Rattle.omp_clauses.specs.Terminals.{chunked_by, value_where, is_chunk, chunk, has_ring_suffix, is_loop_count, loop_count, new_name}
+use Rattle.omp_clauses.specs.Terminals.{chunked_by, value_where, is_loop_count, loop_count, new_name}
 use Rattle.omp_clauses.specs.ClauseGrammar as g
 use Rattle.omp_clauses.specs.LineGrammar as g2
 use Rattle.omp_clauses.specs.Refused.{is_readable_line}
@@ -211,18 +211,18 @@ cond_is : {A : Type 0} (b : Bool) (a x : A) → cond b (Some a) None ≡ Some x 
 cond_is true a x h = (refl, cc)
 cond_is false a x h = cc
 
-small_chunk : (o : Option Number) (n : ℕ) → value_where is_chunk o ≡ Some n → nat_le n 2147483647 ≡ true
+small_chunk : (o : Option Number) (n : Number) → without_eight 2147483647 o ≡ Some n → nat_le n.value 2147483647 ≡ true
 small_chunk None n e = cc
 small_chunk (Some m) n e =
-    let k = cond_is (is_chunk m) m.value n e in
-    ap (λ v. nat_le v 2147483647) (sym k.1) ∙ first_of_two (nat_le m.value 2147483647) (not (has_ring_suffix m.suffix)) k.0
+    let k = cond_is (nat_le m.value 2147483647 && not (is_eight m.suffix)) m n e in
+    ap (λ (v : Number). nat_le v.value 2147483647) (sym k.1) ∙ first_of_two (nat_le m.value 2147483647) (not (is_eight m.suffix)) k.0
 
-holds_chunk : Holds (one chunk) (λ n. nat_le n 2147483647 ≡ true)
+holds_chunk : Holds (one (plain_number 2147483647)) (λ n. nat_le n.value 2147483647 ≡ true)
 holds_chunk n us spelled h = small_chunk (number h.0) n h.1
 
 holds_size : Holds g.chunk_size (λ o. is_size o ≡ true)
 unfolding g.chunk_size
-holds_size = holds_or _ _ _ (holds_then _ _ _ (λ _. holds_bind _ _ (λ n. nat_le n 2147483647 ≡ true) _ holds_chunk (λ n h. holds_gives (Some n) _ h))) (holds_gives None _ refl)
+holds_size = holds_or _ _ _ (holds_then _ _ _ (λ _. holds_bind _ _ (λ n. nat_le n.value 2147483647 ≡ true) _ holds_chunk (λ n h. holds_gives (Some n.value) _ h))) (holds_gives None _ refl)
 
 abbrev Chunks : ScheduleKind × Option ℕ → Type 0
 Chunks k = is_readable_chunk k.0 k.1 ≡ true

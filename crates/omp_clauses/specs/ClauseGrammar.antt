@@ -2,12 +2,12 @@
 use Rattle.std.specs.Prelude.{ℕ, Bool, true, not, ◌&&◌, Option, Some, None}
 use Rattle.fl_ast.specs.declared.directive.ScheduleKind.{ScheduleKind}
 use Rattle.parsing.specs.declared.symbol.Symbol.TheVariants as s
-use Rattle.parsing.specs.Terminal.{marked, by}
+use Rattle.parsing.specs.Terminal.{marked, by, plain_number}
 use Rattle.parsing.specs.Grammar.{Grammar, ◌>>=◌, gives, one, ◌or◌, where_, many}
 use Rattle.omp_clauses.specs.declared.state.Sharing.{Sharing}
 use Rattle.omp_clauses.specs.declared.state.Sharing.TheVariants.{Plus}
 use Rattle.omp_clauses.specs.Said.{Said, has_default, has_schedule, has_collapse, with_name, with_default, with_schedule, with_collapse}
-use Rattle.omp_clauses.specs.Terminals.{sharing_by, none_by, chunked_by, unchunked_by, chunk, loop_count, new_name}
+use Rattle.omp_clauses.specs.Terminals.{sharing_by, none_by, chunked_by, unchunked_by, loop_count, new_name}
 
 -- "default" "(" ("none"|"shared") ")"
 unfoldable pub default_clause : Said → Grammar Said
@@ -23,8 +23,8 @@ unfoldable pub chunk_size : Grammar (Option ℕ)
 chunk_size =
     (do
       comma ← one (marked s.Comma)
-      n ← one chunk
-      gives (Some n))
+      n ← one (plain_number 2147483647)
+      gives (Some n.value))
     or gives None
 
 -- ("static"|"dynamic"|"guided") [ "," number ]

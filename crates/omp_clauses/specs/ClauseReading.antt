@@ -5,12 +5,12 @@ use Rattle.parsing.specs.declared.symbol.Symbol.{Symbol}
 use Rattle.parsing.specs.declared.symbol.Symbol.TheVariants as s
 use Rattle.parsing.specs.declared.cursor.Word.{Word}
 use Rattle.parsing.specs.declared.fault.Cause.TheVariants.{Expected, Twice}
-use Rattle.parsing.specs.Terminal.{is, on, marked, by, reads, name}
+use Rattle.parsing.specs.Terminal.{is, on, marked, by, reads, name, plain_number}
 use Rattle.parsing.specs.Reading.{Parser, ◌>>=◌, pure, refuse, token, choose, within, loop}
 use Rattle.omp_clauses.specs.declared.state.Sharing.{Sharing}
 use Rattle.omp_clauses.specs.declared.state.Sharing.TheVariants.{Plus}
 use Rattle.omp_clauses.specs.Said.{Said, has_default, has_schedule, has_collapse, with_name, with_default, with_schedule, with_collapse}
-use Rattle.omp_clauses.specs.Terminals.{sharing_by, none_by, chunked_by, unchunked_by, chunk, loop_count, repeats}
+use Rattle.omp_clauses.specs.Terminals.{sharing_by, none_by, chunked_by, unchunked_by, loop_count, repeats}
 
 unfoldable pub default_clause : Said → Parser Said
 default_clause c = do
@@ -24,8 +24,8 @@ unfoldable pub chunk_size : Parser (Option ℕ)
 chunk_size = choose (is s.Comma)
     (do
       comma ← token (marked s.Comma)
-      n ← token chunk
-      pure (Some n))
+      n ← token (plain_number 2147483647)
+      pure (Some n.value))
     (pure None)
 
 unfoldable pub chunked : Parser (ScheduleKind × Option ℕ)

@@ -1,5 +1,5 @@
 -- What some tokens of a directive are read as.
-use Rattle.std.specs.Prelude.{ℕ, ◌==◌, Bool, true, false, not, ◌&&◌, ◌||◌, nat_le, if◌then◌else◌, Option, Some, None}
+use Rattle.std.specs.Prelude.{ℕ, ◌==◌, Bool, true, false, ◌&&◌, ◌||◌, if◌then◌else◌, Option, Some, None}
 use Rattle.tokens.specs.Lexeme.{Lexeme}
 use Rattle.fl_ast.specs.declared.directive.ScheduleKind.{ScheduleKind}
 use Rattle.fl_ast.specs.declared.directive.ScheduleKind.TheVariants as schedule
@@ -43,17 +43,6 @@ unchunked_by _ = None
 abbrev pub value_where : (Number → Bool) → Option Number → Option ℕ
 value_where test None = None
 value_where test (Some n) = if test n then Some n.value else None
-
-abbrev pub has_ring_suffix : Option ℕ → Bool
-has_ring_suffix None = false
-has_ring_suffix (Some n) = n == 8
-
--- at most 2^31-1, without the suffix of data
-abbrev pub is_chunk : Number → Bool
-is_chunk n = nat_le n.value 2147483647 && not (has_ring_suffix n.suffix)
-
-abbrev pub chunk : Lexeme → Option ℕ
-chunk t = value_where is_chunk (number t)
 
 -- 1 or 2
 abbrev pub is_loop_count : Number → Bool

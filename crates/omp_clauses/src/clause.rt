@@ -141,32 +141,10 @@ fn sees_more(tokens: &Cursor<'_>) -> bool
 
 // ---- numbers
 
-fn is_chunk(number: Number) -> bool
-    ensures { result ≡ terminals.is_chunk number }
-{
-    number.value <= 2_147_483_647 && number.suffix != Some(8)
-}
-
 fn is_loop_count(number: Number) -> bool
     ensures { result ≡ terminals.is_loop_count number }
 {
     number.value == 1 || number.value == 2
-}
-
-/// The size of chunks.
-fn chunk(tokens: &mut Cursor<'_>) -> Result<u32, Failure>
-    ensures { Reads (reading.token terminals.chunk tokens.old) result tokens.new }
-{
-    let refusal = Fault {
-        cause: Cause::Expected,
-        left: tokens.len(),
-    };
-    let number = tokens.number()?;
-    if is_chunk(number) {
-        Ok(number.value as u32)
-    } else {
-        Err(Failure::Refused(refusal))
-    }
 }
 
 /// How many loops are one.
@@ -204,8 +182,8 @@ fn chunk_size(tokens: &mut Cursor<'_>) -> Result<Option<u32>, Failure>
 {
     if tokens.sees(Symbol::Comma) {
         let _comma = tokens.mark(Symbol::Comma)?;
-        let size = chunk(tokens)?;
-        return Ok(Some(size));
+        let size = tokens.plain_number(2_147_483_647)?;
+        return Ok(Some(size.value as u32));
     }
     Ok(None)
 }
