@@ -7,6 +7,8 @@ mod adjoints;
 #[cfg(test)]
 mod data;
 #[cfg(test)]
+mod directives;
+#[cfg(test)]
 mod lexer;
 #[cfg(test)]
 mod programs;

@@ -1,0 +1,239 @@
+//! Directives from their texts.
+
+use fl_ast::{Directive, ScheduleKind};
+use fl_base::{Items, Name};
+use fl_lexer::lex;
+use omp_clauses::{ClauseError, DirectiveLine, read_directive};
+use std::alloc::{AllocError, Global};
+use std::fmt::Write;
+use std::test::Fail;
+
+fn write_bytes(out: &mut String, bytes: &[u8]) -> Result<(), Fail> {
+    for b in bytes {
+        out.push(char::from(*b))?;
+    }
+    Ok(())
+}
+
+fn show_names(out: &mut String, word: &str, names: &Items<Name>) -> Result<(), Fail> {
+    if names.is_empty() {
+        return Ok(());
+    }
+    write!(out, " {word}")?;
+    for name in names.as_slice() {
+        write!(out, " ")?;
+        write_bytes(out, name.bytes())?;
+    }
+    Ok(())
+}
+
+fn kind_word(kind: ScheduleKind) -> &'static str {
+    match kind {
+        ScheduleKind::Static => "static",
+        ScheduleKind::Dynamic => "dynamic",
+        ScheduleKind::Guided => "guided",
+        ScheduleKind::Auto => "auto",
+        ScheduleKind::Runtime => "runtime",
+    }
+}
+
+fn show_numbers(out: &mut String, d: &Directive) -> Result<(), Fail> {
+    if d.none {
+        write!(out, " none")?;
+    }
+    if let Some((kind, size)) = d.schedule {
+        let word = kind_word(kind);
+        write!(out, " {word}")?;
+        if let Some(n) = size {
+            write!(out, " {n}")?;
+        }
+    }
+    if d.collapse != 0 {
+        let loops = d.collapse;
+        write!(out, " collapse {loops}")?;
+    }
+    Ok(())
+}
+
+fn show_directive(out: &mut String, d: &Directive) -> Result<(), Fail> {
+    let line = d.line;
+    write!(out, "loop {line}")?;
+    show_names(out, "privates", &d.privates)?;
+    show_names(out, "firsts", &d.firsts)?;
+    show_names(out, "shareds", &d.shareds)?;
+    show_names(out, "pluses", &d.pluses)?;
+    show_numbers(out, d)
+}
+
+fn show_error(out: &mut String, e: &ClauseError) -> Result<(), Fail> {
+    match e {
+        ClauseError::Unknown { line, word } => {
+            write!(out, "unknown {line} ")?;
+            write_bytes(out, word.bytes())
+        }
+        ClauseError::Twice { line, name } => {
+            write!(out, "twice {line} ")?;
+            write_bytes(out, name.bytes())
+        }
+        ClauseError::Form { line } => Ok(write!(out, "form {line}")?),
+        ClauseError::Memory => Ok(write!(out, "memory")?),
+    }
+}
+
+fn show(out: &mut String, outcome: &Result<DirectiveLine, ClauseError>) -> Result<(), Fail> {
+    match outcome {
+        Ok(DirectiveLine::ParallelDo(d)) => show_directive(out, d),
+        Ok(DirectiveLine::EndParallelDo) => Ok(write!(out, "end loop")?),
+        Ok(DirectiveLine::Atomic) => Ok(write!(out, "atomic")?),
+        Ok(DirectiveLine::EndAtomic) => Ok(write!(out, "end atomic")?),
+        Err(e) => show_error(out, e),
+    }
+}
+
+/// What a text of one directive is read as.
+fn told(alloc: Global, text: &str) -> Result<String, Fail> {
+    let mut out = String::new(alloc);
+    if text.len() > 2_000_000_000 {
+        return Ok(out);
+    }
+    let tokens = lex(alloc, text.as_bytes())?;
+    show(&mut out, &read_directive(alloc, text.as_bytes(), &tokens))?;
+    Ok(out)
+}
+
+/// Behind `!$omp parallel do `, with what each is read as.
+static CLAUSES: [(&str, &str); 52] = [
+    // each clause, smallest and largest
+    ("", "loop 1"),
+    ("private(a)", "loop 1 privates a"),
+    ("private(A, b)", "loop 1 privates a b"),
+    ("firstprivate(a)", "loop 1 firsts a"),
+    ("shared(a, b, c)", "loop 1 shareds a b c"),
+    ("reduction(+: a)", "loop 1 pluses a"),
+    ("reduction(+:a,b)", "loop 1 pluses a b"),
+    ("default(none)", "loop 1 none"),
+    ("default(shared)", "loop 1"),
+    ("schedule(static)", "loop 1 static"),
+    ("schedule(static, 0)", "loop 1 static 0"),
+    ("schedule(dynamic, 2147483647)", "loop 1 dynamic 2147483647"),
+    ("schedule(guided, 3_4)", "loop 1 guided 3"),
+    ("schedule(auto)", "loop 1 auto"),
+    ("schedule(runtime)", "loop 1 runtime"),
+    ("collapse(1)", "loop 1 collapse 1"),
+    ("collapse(2_8)", "loop 1 collapse 2"),
+    (
+        ", private(a), shared(b) reduction(+:c) , firstprivate(d) private(e) default(none) schedule(static,4), collapse(2)",
+        "loop 1 privates a e firsts d shareds b pluses c none static 4 collapse 2",
+    ),
+    // words that are names
+    ("private(none, static, private, do, x)", "form 1"),
+    (
+        "private(none, static, private, collapse, parallel)",
+        "loop 1 privates none static private collapse parallel",
+    ),
+    // names and clauses that stand twice
+    ("private(a, a)", "twice 1 a"),
+    ("private(a, A)", "twice 1 a"),
+    ("private(a) private(b, a)", "twice 1 a"),
+    ("firstprivate(a) shared(a)", "twice 1 a"),
+    ("shared(a) reduction(+: b, a)", "twice 1 a"),
+    ("private(a, a", "twice 1 a"),
+    ("default(none) default(none)", "twice 1 default"),
+    ("default(shared), default(none)", "twice 1 default"),
+    ("schedule(auto) schedule(", "twice 1 schedule"),
+    ("collapse(1) collapse", "twice 1 collapse"),
+    ("collapse(1), private(x) collapse(2)", "twice 1 collapse"),
+    // words that begin no clause
+    ("nowait", "unknown 1 nowait"),
+    ("private(a) NoWait", "unknown 1 nowait"),
+    ("private(a), nowait", "unknown 1 nowait"),
+    ("static", "unknown 1 static"),
+    ("none", "unknown 1 none"),
+    ("private static", "unknown 1 static"),
+    ("if", "unknown 1 if"),
+    ("private(a) a", "unknown 1 a"),
+    // the rest
+    ("private(if)", "form 1"),
+    ("private()", "form 1"),
+    ("private(a,)", "form 1"),
+    ("private a", "unknown 1 a"),
+    ("private private", "form 1"),
+    ("do", "form 1"),
+    ("private(a),", "form 1"),
+    (",, private(a)", "form 1"),
+    ("reduction(*: a)", "form 1"),
+    ("default(private)", "form 1"),
+    ("schedule(auto, 1)", "form 1"),
+    ("schedule(static, 2147483648)", "form 1"),
+    ("schedule(static, 1_8)", "form 1"),
+];
+
+/// Whole texts, with what each is read as.
+static LINES: [(&str, &str); 20] = [
+    ("!$omp end parallel do\n", "end loop"),
+    ("!$omp atomic\n", "atomic"),
+    ("!$OMP ATOMIC UPDATE", "atomic"),
+    ("!$omp end atomic\r\n", "end atomic"),
+    ("!$omp\n", "form 1"),
+    ("!$omp parallel\n", "form 1"),
+    ("!$omp end\n", "form 1"),
+    ("!$omp end do\n", "form 1"),
+    ("!$omp end atomic update\n", "form 1"),
+    ("!$omp atomic read\n", "unknown 1 read"),
+    ("!$omp atomic private(x)\n", "form 1"),
+    ("!$omp simd\n", "unknown 1 simd"),
+    ("!$omp parallel do collapse(0)\n", "form 1"),
+    ("!$omp parallel do collapse(3)\n", "form 1"),
+    (
+        "! one\n!$omp parallel do &\n\n! two\n!$omp private(a, & ! three\n!$omp b)\n",
+        "loop 2 privates a b",
+    ),
+    (
+        "!$omp parallel do &\n!$omp private(a, &\n!$omp a)\n",
+        "twice 3 a",
+    ),
+    ("!$omp parallel do &\n!$omp nowait\n", "unknown 2 nowait"),
+    ("!$omp parallel do private(a &\n!$omp\n", "form 2"),
+    ("!$omp parallel do private(a\n", "form 1"),
+    ("!$omp parallel do private(a, &\n!$omp & b)\n", "form 2"),
+];
+
+#[test]
+fn clauses_are_read(rt: HostRuntime) -> Result<(), Fail> {
+    for (clauses, wanted) in &CLAUSES {
+        let text = format!(in rt.alloc(); "!$omp parallel do {clauses}\n")?;
+        let got = told(rt.alloc(), text.as_str())?;
+        assert_eq!(rt; got.as_str(), *wanted, "{clauses}");
+    }
+    Ok(())
+}
+
+#[test]
+fn directives_are_read(rt: HostRuntime) -> Result<(), Fail> {
+    for (text, wanted) in &LINES {
+        let got = told(rt.alloc(), text)?;
+        assert_eq!(rt; got.as_str(), *wanted, "{text}");
+    }
+    Ok(())
+}
+
+/// A directive that lists so many names, over as many lines.
+fn many_names(alloc: Global, count: u32, last: &str) -> Result<String, AllocError> {
+    let mut text = String::from_str(alloc, "!$omp parallel do private(x &\n")?;
+    for i in 0..count {
+        let line = format!(in alloc; "!$omp ,n{i}&\n")?;
+        text.push_str(line.as_str())?;
+    }
+    text.push_str("!$omp ,")?;
+    text.push_str(last)?;
+    text.push_str(")\n")?;
+    Ok(text)
+}
+
+#[test]
+fn many_names_are_read(rt: HostRuntime) -> Result<(), Fail> {
+    let twice = many_names(rt.alloc(), 100_000, "n77")?;
+    let got = told(rt.alloc(), twice.as_str())?;
+    assert_eq!(rt; got.as_str(), "twice 100002 n77");
+    Ok(())
+}
