@@ -10,7 +10,7 @@ use Rattle.store_core.specs.declared.layout.Shape.{Shape}
 use Rattle.store_core.specs.declared.values.Args.{Args}
 use Rattle.store_core.specs.declared.values.Weights.{Weights}
 use Rattle.store_core.specs.Filled.{place_words, entries_at}
-use Rattle.meaning.specs.Values.{signed_at}
+use Rattle.ring_core.specs.Ring.{signed_at}
 use Rattle.meaning.specs.Sites.{data_width}
 use Rattle.meaning.specs.Programs.{final_words, adjoint_words}
 use Rattle.data_io.specs.declared.answer.Answer.{Answer}

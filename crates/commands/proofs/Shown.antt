@@ -1,11 +1,13 @@
 -- Words of eight bytes of data, as an answer shows them.
 use Rattle.std.proofs.Common.{◌≡◌, ℕ, zero, suc, ◌+◌, ◌&&◌, true, List, [], ◌∷◌, length, map, get_or, Fits, w64, refl, sym, ap, ◌∙◌, subst, nat_eq, if◌then◌else◌, arith}
 use Rattle.std.proofs.lemmas.Bool.{and_parts}
+use Rattle.std.specs.Int.{cast_signed, cast_unsigned}
+use Rattle.std.proofs.Math.Nat.{mod-eq_of_lt}
 use Rattle.std.proofs.lemmas.Int.{of_z-to_z}
 use Rattle.std.proofs.lemmas.Bool.Decides.{nat_tests}
 use Rattle.std.proofs.lemmas.List.{length-map}
 use Rattle.ring_core.specs.declared.ring.Width.{Width}
-use Rattle.ring_core.specs.declared.ring.Width.TheVariants.{W64}
+use Rattle.ring_core.specs.declared.ring.Width.TheVariants.{Bits64}
 use Rattle.fl_ast.specs.declared.decl.Decl.{Decl}
 use Rattle.fl_ast.specs.declared.stmt.Program.{Program}
 use Rattle.fl_ast.specs.Tree.{program_tree, stmt_tree}
@@ -26,13 +28,13 @@ use Rattle.adjoint_meaning.proofs.Whole.{words_are_final}
 use Rattle.answers.specs.Runs.{shown_word, shown_at, values_of, adjoints_of}
 
 -- a word is shown as it is
-all_shown : (ws : List ℕ) → ((i : ℕ) → Fits w64 (get_or ws i 0)) → map (shown_word W64) ws ≡ ws
+all_shown : (ws : List ℕ) → ((i : ℕ) → Fits w64 (get_or ws i 0)) → map (shown_word Bits64) ws ≡ ws
 all_shown [] fits = refl
 all_shown (w ∷ ws) fits =
-    ap (λ v. v ∷ map (shown_word W64) ws) (of_z-to_z w64 w (fits 0).fits) ∙ ap (λ vs. w ∷ vs) (all_shown ws (λ i. fits (suc i)))
+    ap (λ v. v ∷ map (shown_word Bits64) ws) (ap (λ n. cast_unsigned w64 (cast_signed w64 n)) (mod-eq_of_lt (fits 0).fits) ∙ of_z-to_z w64 w (fits 0).fits) ∙ ap (λ vs. w ∷ vs) (all_shown ws (λ i. fits (suc i)))
 
 -- data of a supported program has eight bytes
-decls_width : (args : List (List ℕ)) (ds : List Decl) → are_supported_decls args ds ≡ true → data_width ds ≡ W64
+decls_width : (args : List (List ℕ)) (ds : List Decl) → are_supported_decls args ds ≡ true → data_width ds ≡ Bits64
 decls_width args [] h = refl
 decls_width args (d ∷ ds) h =
     let first = and_parts (is_supported_decl args d) (are_supported_decls args ds) h in
@@ -41,7 +43,7 @@ decls_width args (d ∷ ds) h =
     let bytes : d.bytes ≡ 8 = grind (arith, nat_tests, eight.1) in
     ap (λ k. if k then width_of d.bytes else data_width ds) eight.0 ∙ ap width_of bytes
 
-pub supported_width : (p : Program) → is_supported p ≡ true → data_width p.decls ≡ W64
+pub supported_width : (p : Program) → is_supported p ≡ true → data_width p.decls ≡ Bits64
 unfolding is_supported
 supported_width p h =
     let a = and_parts (are_supported_names p) _ h in
