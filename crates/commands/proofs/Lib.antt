@@ -1,1 +1,2 @@
-pub mod RunPast
+pub mod CommandsDone
+pub mod Shown

@@ -1,1 +1,4 @@
+pub mod Done
 pub mod Plans
+pub mod Runs
+pub mod Unbuilt

@@ -1,30 +1,26 @@
--- What is due for a command: the order of refusals.
+-- What is due for a command.
 use Rattle.std.specs.Prelude.{ℕ, List}
-use Rattle.ending.specs.declared.status.Status.TheVariants.{Done}
 use Rattle.ending.specs.Plan.{Plan, Answers}
-use Rattle.fl_ast.specs.declared.stmt.Program.{Program}
-use Rattle.store_core.specs.declared.values.Args.{Args}
-use Rattle.program_stage.specs.Programs.{program_stage}
-use Rattle.program_stage.specs.Names.{names_stage}
-use Rattle.data_stages.specs.Files.{args_stage, seed_stage}
-use Rattle.data_stages.specs.Layouts.{layout_stage}
+use Rattle.formad_words.specs.declared.words.Words.{Words}
+use Rattle.formad_words.specs.declared.words.Words.TheVariants as words
+use Rattle.program_stage.specs.Lines.{not_built_plan}
+use Rattle.commands.specs.Runs.{run_stage}
+use Rattle.commands.specs.Unbuilt.{subject_only, check_stage, tangent_stage, replay_stage}
 
--- the number of places; the text of the answer isn't told yet
-unfoldable pub layout_plan : Program → Args → Plan
-layout_plan program args = layout_stage program args (λ layout. Answers Done)
+-- `load` has no file, and isn't built yet
+unfoldable pub load_stage : (List ℕ → Plan) → Plan
+load_stage rest = not_built_plan
 
--- the seed file, and what follows
-unfoldable pub seed_plan : (seed : List ℕ) (program : Program) (args : Args) (of : List (List ℕ)) → Plan
-seed_plan seed program args of = seed_stage seed program args of (λ weights. layout_plan program args)
+abbrev pub command_stage : Words → (List ℕ → Plan) → Plan
+command_stage (words.Adjoint subject) = subject_only subject
+command_stage (words.Prove subject) = subject_only subject
+command_stage (words.Check subject certificate) = check_stage subject certificate
+command_stage (words.Report subject) = subject_only subject
+command_stage (words.Tangent program values direction) = tangent_stage program values direction
+command_stage (words.Run request) = run_stage request
+command_stage (words.Replay replay) = replay_stage replay
+command_stage (words.Load edges workers) = load_stage
 
--- the names of `of` and of `wrt`, the data file, and what follows
-unfoldable pub typed_plan : (program : Program) (values seed : List ℕ) (of wrt : List (List ℕ)) → Plan
-typed_plan program values seed of wrt =
-    names_stage program of (λ _.
-    names_stage program wrt (λ _.
-    args_stage values program (λ args.
-    seed_plan seed program args of)))
-
--- the program file and its text, and what follows
-unfoldable pub run_plan : (file values seed : List ℕ) (of wrt : List (List ℕ)) → Plan
-run_plan file values seed of wrt = program_stage file (λ program. typed_plan program values seed of wrt)
+-- the order of refusals of a command, and its answer
+abbrev pub command_plan : Words → Plan
+command_plan w = command_stage w Answers

@@ -1,139 +1,100 @@
-ghost use Rattle.std.specs.Prelude.{◌≡◌, ◌*◌, OnOk, length};
+ghost use Rattle.std.specs.Prelude.{◌≡◌, ◌+◌, IfOk, OnOk, length};
 ghost use Rattle.store_core.specs.Keys.{keys_of};
+ghost use Rattle.store_core.specs.Places.{shapes_of};
+ghost use Rattle.answers.specs.Runs.{shown_at, values_of, adjoints_of, run_answer, text_of};
+ghost use Rattle.commands.specs.Runs.{answer_text};
 
-use adjoint_sweep::{Scratch, sweep_all};
+use crate::inputs::Inputs;
 use data_io::{Answer, write_answer};
-use fl_ast::Adjoint;
 use fl_base::{Items, Memory, Name};
-use fl_types::{Choices, NameSet, Typed};
-use primal_sweep::forward;
-use reversal::reverse;
+use fl_types::{Choices, Typed};
+use formad_words::Request;
+use one_thread::{Swept, sweep};
 use ring_core::Steps;
 use std::alloc::Global;
 use std::sync::ledger::Ledger;
-use store_core::{Args, Layout, Store, Tape, Weights};
+use store_core::{Layout, Weights};
 
-/// All arguments, which in the programs that are built so far are scalars of the ring kind.
-fn all_active(alloc: Global, typed: &Typed) -> Result<NameSet, Memory> {
-    let mut names = Vec::new(alloc);
-    for name in typed.program().args.as_slice() {
-        names.push(name.clone(alloc)?)?;
-    }
-    names.sort_by(|a: &Name, b: &Name| a.bytes().cmp(b.bytes()))?;
-    Ok(NameSet {
-        names: Items::from_vec(names),
-    })
-}
-
-/// The adjoint for all arguments.
-fn tree_of(alloc: Global, typed: &Typed, choices: &Choices) -> Result<Adjoint, Memory> {
-    let active = all_active(alloc, typed)?;
-    reverse(alloc, typed, &active, choices)
-}
-
-/// The values of the names of `of` after the forward part, which leaves the tape and the seed's weights behind.
-fn forwards<L: Ledger>(
+/// Names with their words, from the words of all places.
+fn shown(
     alloc: Global,
-    tree: &Adjoint,
+    typed: &Typed,
     layout: &Layout,
-    weights: &Weights,
-    of: &[Name],
-    store: &mut Store,
-    steps: &mut Steps<L>,
-) -> Result<(Weights, Tape), Memory>
-    requires { length store.old ≡ 2 * length (keys_of layout.now) }
-    ensures { OnOk result (length store.new ≡ 2 * length (keys_of layout.now)) }
-{
-    let tape = forward(alloc, tree, layout, store, steps)?;
-    let value = layout.values_of(alloc, store, of)?;
-    layout.seed(store, weights);
-    Ok((value, tape))
-}
-
-/// The adjoints of the names of `wrt` after the reverse part.
-fn backwards(
-    alloc: Global,
-    tree: &Adjoint,
-    layout: &Layout,
-    wrt: &[Name],
-    store: Store,
-    tape: Tape,
+    words: &[u64],
+    names: &[Name],
 ) -> Result<Weights, Memory>
-    requires { length store ≡ 2 * length (keys_of layout.now) }
+    requires { length words.now ≡ length (keys_of layout.now) }
+    ensures { IfOk result (λ weights. weights ≡ shown_at typed.now layout.now words.now names.now) }
 {
-    let scratch = Scratch::make(alloc, tree, layout)?;
-    let store = sweep_all(alloc, &scratch, store, tape)?;
-    layout.adjoints_of(alloc, &store, wrt)
+    let _program = typed.program();
+    let entries = layout.entries(alloc, words, names)?;
+    Ok(Weights { entries })
 }
 
-/// The values of the names of `of`, and the adjoints of those of `wrt`.
-fn swept<L: Ledger>(
+/// The answer of a run from its words. Without parallel loops nothing is chosen.
+fn answer_of(
     alloc: Global,
-    tree: &Adjoint,
-    layout: &Layout,
-    mut store: Store,
-    weights: &Weights,
-    of: &[Name],
-    wrt: &[Name],
-    steps: &mut Steps<L>,
-) -> Result<(Weights, Weights), Memory>
-    requires { length store ≡ 2 * length (keys_of layout.now) }
+    request: &Request,
+    inputs: &Inputs,
+    swept: &Swept,
+) -> Result<Answer, Memory>
+    requires long { length swept.now.values.items ≡ length (keys_of inputs.now.layout) }
+    requires wide { length swept.now.adjoints.items ≡ length (keys_of inputs.now.layout) }
+    requires values { swept.now.values.items ≡ values_of inputs.now.typed inputs.now.layout inputs.now.args }
+    requires adjoints { swept.now.adjoints.items ≡ adjoints_of inputs.now.typed inputs.now.layout inputs.now.args inputs.now.weights }
+    ensures { IfOk result (λ answer. answer ≡ run_answer inputs.now.typed inputs.now.layout inputs.now.args inputs.now.weights
+        request.now.of request.now.wrt) }
 {
-    let (value, tape) = forwards(alloc, tree, layout, weights, of, &mut store, steps)?;
-    let adjoint = backwards(alloc, tree, layout, wrt, store, tape)?;
-    Ok((value, adjoint))
-}
-
-/// What the adjoint of a program gives: the values of the names of `of` at the arguments, and the adjoints of those of
-/// `wrt` for the weights.
-fn ran<L: Ledger>(
-    alloc: Global,
-    tree: &Adjoint,
-    layout: &Layout,
-    args: &Args,
-    weights: &Weights,
-    of: &[Name],
-    wrt: &[Name],
-    steps: &mut Steps<L>,
-) -> Result<(Weights, Weights), Memory> {
-    let store = layout.opening(alloc, args)?;
-    swept(alloc, tree, layout, store, weights, of, wrt, steps)
-}
-
-/// The text of an answer without choices.
-fn answer_text(
-    alloc: Global,
-    choices: Choices,
-    value: Weights,
-    adjoint: Weights,
-) -> Result<Vec<u8>, Memory> {
-    let answer = Answer {
+    let typed = &inputs.typed;
+    let layout = &inputs.layout;
+    let adjoint = shown(
+        alloc,
+        typed,
+        layout,
+        &swept.adjoints,
+        request.wrt.as_slice(),
+    )?;
+    let value = shown(alloc, typed, layout, &swept.values, request.of.as_slice())?;
+    Ok(Answer {
         adds: 0,
         adjoint,
         value,
-        choices,
+        choices: Choices {
+            entries: Items::new(alloc),
+        },
         race: None,
-    };
-    let mut text = write_answer(alloc, &answer)?;
+    })
+}
+
+/// The text of an answer.
+fn text(alloc: Global, answer: &Answer) -> Result<Vec<u8>, Memory>
+    ensures { IfOk result (λ text. text.items ≡ text_of answer.now) }
+{
+    let mut text = write_answer(alloc, answer)?;
     text.push(b'\n')?;
     Ok(text)
 }
 
-/// The text of the answer of a run.
+/// The text of a run's answer.
 pub(crate) fn answer<L: Ledger>(
     alloc: Global,
-    typed: &Typed,
-    args: &Args,
-    weights: &Weights,
-    layout: &Layout,
-    of: &[Name],
-    wrt: &[Name],
+    request: &Request,
+    inputs: &Inputs,
     steps: &mut Steps<L>,
-) -> Result<Vec<u8>, Memory> {
-    let choices = Choices {
-        entries: Items::new(alloc),
-    };
-    let tree = tree_of(alloc, typed, &choices)?;
-    let (value, adjoint) = ran(alloc, &tree, layout, args, weights, of, wrt, steps)?;
-    answer_text(alloc, choices, value, adjoint)
+) -> Result<Vec<u8>, Memory>
+    requires laid { inputs.now.layout ≡ shapes_of inputs.now.typed inputs.now.args.entries }
+    ensures text { IfOk result (λ text. text.items ≡ answer_text request.now inputs.now) }
+    ensures ticks { OnOk result (steps.new ≡ steps.old + length inputs.now.typed.body) }
+{
+    let _program = inputs.typed.program();
+    let swept = sweep(
+        alloc,
+        &inputs.typed,
+        &inputs.layout,
+        &inputs.args,
+        &inputs.weights,
+        steps,
+    )?;
+    let answer = answer_of(alloc, request, inputs, &swept)?;
+    text(alloc, &answer)
 }

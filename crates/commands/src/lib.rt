@@ -2,6 +2,9 @@
 #![tactic(auto)]
 
 mod answer;
+mod inputs;
+mod outcome;
 mod run;
+mod unbuilt;
 
-pub use run::run_one;
+pub use outcome::outcome_of;

@@ -5,8 +5,6 @@ mod answer;
 mod data;
 mod number;
 mod read;
-#[cfg(test)]
-mod tests;
 
 pub use answer::{Answer, RaceText, write_answer};
 pub use data::DataError;

@@ -6,7 +6,6 @@ use Rattle.std.proofs.lemmas.Str.{IsUtf8-from_is_utf8, is_utf8-from_IsUtf8}
 use Rattle.serde_json.specs.Data.{Data}
 use Rattle.serde_json.specs.Read.{read}
 use Rattle.fl_base.specs.Finds.{Finds}
-use Rattle.ending.specs.declared.status.Status.TheVariants.{ReadFault}
 use Rattle.store_core.specs.declared.layout.Shape.{Shape}
 use Rattle.store_core.specs.declared.layout.LayoutError.{LayoutError}
 use Rattle.store_core.specs.declared.layout.LayoutError.TheVariants as laying
@@ -17,25 +16,8 @@ use Rattle.store_core.specs.Keys.{keys_of, LaysWithin}
 use Rattle.data_io.specs.declared.data.DataError.{DataError}
 use Rattle.data_io.specs.declared.data.DataError.TheVariants as reading
 use Rattle.data_io.specs.DataFaults.{Answers, IsJson, no_json, no_args, no_weights, args_faults, args_of, faults_of, seed_of}
-use Rattle.data_stages.specs.Faults.{say_data}
 use Rattle.data_stages.specs.Files.{json_of, unless, of_json, args_in, seed_in}
-use Rattle.data_stages.specs.Layouts.{laid_out, say_layout}
-
--- no error is said as a fault of the folder
-pub data_faultless : (file : List ℕ) (e : DataError) → (say_data file e).0 ≡ ReadFault → ⊥
-data_faultless file reading.NotJson h = cc
-data_faultless file reading.NotObject h = cc
-data_faultless file (reading.Missing name) h = cc
-data_faultless file (reading.Extra name) h = cc
-data_faultless file (reading.NotWhole name at) h = cc
-data_faultless file (reading.Shape name want got) h = cc
-data_faultless file (reading.IndexRange name at) h = cc
-data_faultless file reading.TooManySteps h = cc
-data_faultless file reading.Memory h = cc
-
-pub layout_faultless : (e : LayoutError) → (say_layout e).0 ≡ ReadFault → ⊥
-layout_faultless laying.TooManyPlaces h = cc
-layout_faultless laying.Memory h = cc
+use Rattle.data_stages.specs.Layouts.{laid_out}
 
 -- the layout that is found
 pub lays_found : (result : Result (List Shape) LayoutError) (shapes : List Shape) → LaysWithin (2 ^ 20) result shapes → Finds {T = List Shape} (λ l. l) laying.Memory (laid_out shapes) result

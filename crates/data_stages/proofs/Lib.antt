@@ -1,2 +1,2 @@
-pub mod DataPast
+pub mod DataDone
 pub mod Found

@@ -30,8 +30,7 @@ pub fn load_args<F: Folder>(
     file: &Name,
     typed: &Typed,
 ) -> Result<Args, Early>
-    ensures { IsStage (λ args. args) (F.contents folder.old) (F.contents folder.new)
-        (F.faults folder.old) (F.faults folder.new) (args_stage file.now typed.now) result }
+    ensures { IsStage (λ args. args) (F.state folder.old) (F.state folder.new) (args_stage file.now typed.now) result }
 {
     let bytes = take_file(alloc, folder, file, MOST, b"limit data 67108864\n")?;
     args_of(alloc, &bytes, typed)
@@ -61,8 +60,7 @@ pub fn load_seed<F: Folder>(
     args: &Args,
     of: &[Name],
 ) -> Result<Weights, Early>
-    ensures { IsStage (λ weights. weights) (F.contents folder.old) (F.contents folder.new)
-        (F.faults folder.old) (F.faults folder.new) (seed_stage file.now typed.now args.now of.now) result }
+    ensures { IsStage (λ weights. weights) (F.state folder.old) (F.state folder.new) (seed_stage file.now typed.now args.now of.now) result }
 {
     let bytes = take_file(alloc, folder, file, MOST, b"limit data 67108864\n")?;
     seed_of(alloc, &bytes, typed, args, of)

@@ -1,25 +1,27 @@
-ghost use Rattle.ending.specs.Stage.{IsPart, IsRefusal};
-ghost use Rattle.store_core.specs.declared.layout.LayoutError.TheVariants.{Memory as memory};
+ghost use Rattle.std.specs.Prelude.{◌≡◌, IfOk};
+ghost use Rattle.ending.specs.Stage.{IsPart, IsSaying};
+ghost use Rattle.store_core.specs.Places.{shapes_of};
 ghost use Rattle.data_stages.specs.Layouts.{say_layout, layout_stage};
 
-use ending::{Early, Status, said};
+use ending::{Early, Verdict, said};
 use fl_types::Typed;
 use std::alloc::Global;
 use store_core::{Args, Layout, LayoutError};
 
 /// What is said of a program that has no layout.
 fn layout_refused(alloc: Global, error: LayoutError) -> Early
-    ensures { IsRefusal memory say_layout error result }
+    ensures { IsSaying (say_layout error) result }
 {
     match error {
-        LayoutError::TooManyPlaces => said(alloc, Status::OverLimit, b"limit places 1048576\n"),
+        LayoutError::TooManyPlaces => said(alloc, Verdict::OverLimit, b"limit places 1048576\n"),
         LayoutError::Memory => Early::Memory,
     }
 }
 
 /// The places of a program with these arguments.
 pub fn lay_out(alloc: Global, typed: &Typed, args: &Args) -> Result<Layout, Early>
-    ensures { IsPart (λ layout. layout) (layout_stage typed.now args.now) result }
+    ensures part { IsPart (λ layout. layout) (layout_stage typed.now args.now) result }
+    ensures laid { IfOk result (λ layout. layout ≡ shapes_of typed.now args.now.entries) }
 {
     match Layout::of(alloc, typed, args) {
         Ok(layout) => Ok(layout),

@@ -3,8 +3,10 @@
 
 mod data;
 mod fault;
+mod later;
 mod layout;
 mod line;
 
 pub use data::{load_args, load_seed};
+pub use later::{load_certificate, load_unread};
 pub use layout::lay_out;

@@ -1,9 +1,9 @@
 ghost use Rattle.std.specs.Prelude.{◌≡◌, IfOk};
-ghost use Rattle.ending.specs.declared.status.Status.TheVariants.{BadData};
+ghost use Rattle.ending.specs.declared.verdict.Verdict.TheVariants.{BadData};
 ghost use Rattle.ending.specs.Stage.{IsSaid};
 ghost use Rattle.data_stages.specs.Lines as spec;
 
-use ending::{Due, Early, Status};
+use ending::{Early, Verdict};
 use fl_base::Name;
 use itoa::Buffer;
 use std::alloc::{AllocError, Global};
@@ -23,10 +23,10 @@ pub(crate) fn file_fault(alloc: Global, file: &[u8], fault: &[u8]) -> Early
     ensures { IsSaid BadData (spec.file_line file.now fault.now) result }
 {
     match file_text(alloc, file, fault) {
-        Ok(text) => Early::Said(Due {
-            status: Status::BadData,
+        Ok(text) => Early::Said {
+            verdict: Verdict::BadData,
             text,
-        }),
+        },
         Err(_) => Early::Memory,
     }
 }
@@ -48,10 +48,10 @@ pub(crate) fn name_fault(alloc: Global, file: &[u8], name: &Name, fault: &[u8]) 
     ensures { IsSaid BadData (spec.name_line file.now name.now fault.now) result }
 {
     match name_text(alloc, file, name, fault) {
-        Ok(text) => Early::Said(Due {
-            status: Status::BadData,
+        Ok(text) => Early::Said {
+            verdict: Verdict::BadData,
             text,
-        }),
+        },
         Err(_) => Early::Memory,
     }
 }
@@ -82,10 +82,10 @@ pub(crate) fn number_fault(alloc: Global, file: &[u8], name: &Name, fault: &[u8]
     ensures { IsSaid BadData (spec.number_line file.now name.now fault.now at) result }
 {
     match number_text(alloc, file, name, fault, at) {
-        Ok(text) => Early::Said(Due {
-            status: Status::BadData,
+        Ok(text) => Early::Said {
+            verdict: Verdict::BadData,
             text,
-        }),
+        },
         Err(_) => Early::Memory,
     }
 }
@@ -116,10 +116,10 @@ pub(crate) fn shape_fault(alloc: Global, file: &[u8], name: &Name, want: u64, go
     ensures { IsSaid BadData (spec.shape_line file.now name.now want got) result }
 {
     match shape_text(alloc, file, name, want, got) {
-        Ok(text) => Early::Said(Due {
-            status: Status::BadData,
+        Ok(text) => Early::Said {
+            verdict: Verdict::BadData,
             text,
-        }),
+        },
         Err(_) => Early::Memory,
     }
 }

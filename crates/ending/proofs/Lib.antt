@@ -1,5 +1,6 @@
 pub mod Answers
+pub mod Done
 pub mod Follow
 pub mod Laws
-pub mod Past
 pub mod Pieces
+pub mod Takes

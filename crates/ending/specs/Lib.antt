@@ -2,3 +2,4 @@ pub mod Ends
 pub mod Numbers
 pub mod Plan
 pub mod Stage
+pub mod Verdicts

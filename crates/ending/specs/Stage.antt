@@ -1,62 +1,66 @@
--- What a stage of a run promises.
-use Rattle.std.specs.Prelude.{ℕ, ◌≡◌, ◌≢◌, ◌≤◌, List, Option, Some, Result, Ok, Err, Vec}
-use Rattle.std.specs.declared.alloc.Global.{Global}
+-- What a stage of a command promises.
+use Rattle.std.specs.Prelude.{ℕ, ◌≡◌, ◌≤◌, List, Option, Some, None, IfSome, IsErrAnd, Result, Ok, Err}
 use Rattle.outside.specs.Causes.{Rose}
-use Rattle.ending.specs.declared.status.Status.{Status}
-use Rattle.ending.specs.declared.status.Status.TheVariants.{Done, ReadFault}
+use Rattle.outside.specs.States.{Files, FolderState}
+use Rattle.ending.specs.declared.status.Status.TheVariants.{NoFile, ReadFault}
+use Rattle.ending.specs.declared.verdict.Verdict.{Verdict}
 use Rattle.ending.specs.declared.early.Early.{Early}
-use Rattle.ending.specs.declared.early.Early.TheVariants.{Said, Memory}
-use Rattle.ending.specs.Plan.{Files, Plan, LeadsTo}
+use Rattle.ending.specs.declared.early.Early.TheVariants.{Said, Missing, Fault, Memory}
+use Rattle.ending.specs.Verdicts.{status_of}
+use Rattle.ending.specs.Plan.{Plan, Saying, Answer, LeadsTo}
 
--- the answer with this status and text, or want of memory
-abbrev pub IsSaid : Status → List ℕ → Early → Type 0
-IsSaid status text (Said due) = (due.status ≡ status) × (due.text.items ≡ text)
-IsSaid status text Memory = Unit {0}
+-- the verdict with this text, or want of memory
+abbrev pub IsSaid : Verdict → List ℕ → Early → Type 0
+IsSaid due line (Said verdict text) = (verdict ≡ due) × (text.items ≡ line)
+IsSaid due line (Missing text) = ⊥
+IsSaid due line (Fault text) = ⊥
+IsSaid due line Memory = Unit {0}
 
--- what is said of an error of a part, or want of memory
-abbrev pub IsRefusal : {E : Type 0} → E → (E → Status × List ℕ) → E → Early → Type 0
-IsRefusal memory say error (Said due) = (error ≢ memory) × (due.status ≡ (say error).0) × (due.text.items ≡ (say error).1)
-IsRefusal memory say error Memory = Unit {0}
+-- a missing file, or want of memory
+abbrev pub IsMissing : List ℕ → Early → Type 0
+IsMissing line (Said verdict text) = ⊥
+IsMissing line (Missing text) = text.items ≡ line
+IsMissing line (Fault text) = ⊥
+IsMissing line Memory = Unit {0}
 
--- a fault of the folder is told
-abbrev pub IsFault : {T : Type 0} → Result T Early → Type 0
-IsFault (Ok value) = ⊥
-IsFault (Err (Said due)) = due.status ≡ ReadFault
-IsFault (Err Memory) = ⊥
+-- a fault of the folder, or want of memory
+abbrev pub IsFault : List ℕ → Early → Type 0
+IsFault line (Said verdict text) = ⊥
+IsFault line (Missing text) = ⊥
+IsFault line (Fault text) = text.items ≡ line
+IsFault line Memory = Unit {0}
+
+-- what is said of an error, or want of memory
+abbrev pub IsSaying : Saying → Early → Type 0
+IsSaying None early = early ≡ Memory
+IsSaying (Some saying) early = IsSaid saying.0 saying.1 early
+
+abbrev pub HasFaulted : Early → Type 0
+HasFaulted (Said verdict text) = ⊥
+HasFaulted (Missing text) = ⊥
+HasFaulted (Fault text) = Unit {0}
+HasFaulted Memory = ⊥
+
+-- the status and the text of an early end, None where memory is wanting
+abbrev pub answer_of : Early → Option Answer
+answer_of (Said verdict text) = Some (status_of verdict, text.items)
+answer_of (Missing text) = Some (NoFile, text.items)
+answer_of (Fault text) = Some (ReadFault, text.items)
+answer_of Memory = None
 
 -- a value leads on to the rest of the plan, whatever that is; an early end comes of the plan, whatever the rest is
 abbrev pub Continues : {T A : Type 0} → (T → A) → Files → ((A → Plan) → Plan) → Result T Early → Type 0
-Continues view files stage (Ok value) =
-    (rest : _) (status : Status) (text : List ℕ) → LeadsTo files (rest (view value)) status text → LeadsTo files (stage rest) status text
-Continues view files stage (Err (Said due)) = (rest : _) → LeadsTo files (stage rest) due.status due.text.items
-Continues view files stage (Err Memory) = Unit {0}
+Continues view files stage (Ok value) = (rest : _) (status : _) (text : List ℕ) → LeadsTo files (rest (view value)) status text → LeadsTo files (stage rest) status text
+Continues view files stage (Err early) = IfSome (answer_of early) (λ answer. (rest : _) → LeadsTo files (stage rest) answer.0 answer.1)
 
--- a stage over a folder: the contents and the count of faults before and after
-pub record IsStage {T A : Type 0} (view : T → A) (before after : Option Files) (faults later : ℕ) (stage : (A → Plan) → Plan) (result : Result T Early) : Type 0 where
-  pub same : after ≡ before
-  pub counted : faults ≤ later
-  pub rose : IsFault result → Rose faults later
-  pub told : (files : Files) → before ≡ Some files → Continues view files stage result
+-- a stage over a folder, whose contents stay: the folder before and after
+pub record IsStage {T A : Type 0} (view : T → A) (before after : FolderState) (stage : (A → Plan) → Plan) (result : Result T Early) : Type 0 where
+  pub same : after.contents ≡ before.contents
+  pub counted : before.faults ≤ after.faults
+  pub rose : IsErrAnd result HasFaulted → Rose before.faults after.faults
+  pub told : (files : Files) → before.contents ≡ Some files → Continues view files stage result
 
 -- a stage that takes no file
 pub record IsPart {T A : Type 0} (view : T → A) (stage : (A → Plan) → Plan) (result : Result T Early) : Type 0 where
-  pub clear : IsFault result → ⊥
+  pub clear : IsErrAnd result HasFaulted → ⊥
   pub told : (files : Files) → Continues view files stage result
-
--- a command comes to an end of its plan
-abbrev pub Reaches : Files → Plan → Result (Vec ℕ Global) Early → Type 0
-Reaches files plan (Ok text) = LeadsTo files plan Done text.items
-Reaches files plan (Err (Said due)) = LeadsTo files plan due.status due.text.items
-Reaches files plan (Err Memory) = Unit {0}
-
--- a command over a folder: the contents and the count of faults before and after
-pub record IsCommand (before after : Option Files) (faults later : ℕ) (plan : Plan) (result : Result (Vec ℕ Global) Early) : Type 0 where
-  pub same : after ≡ before
-  pub counted : faults ≤ later
-  pub rose : IsFault result → Rose faults later
-  pub told : (files : Files) → before ≡ Some files → Reaches files plan result
-
--- a command that takes no file
-pub record IsEnd (plan : Plan) (result : Result (Vec ℕ Global) Early) : Type 0 where
-  pub clear : IsFault result → ⊥
-  pub told : (files : Files) → Reaches files plan result

@@ -1,4 +1,4 @@
-ghost use Rattle.ending.specs.Ends.{Puts, IsPut, Finishes};
+ghost use Rattle.ending.specs.Ends.{Puts, IsPut, ending_of};
 
 use crate::early::Early;
 use crate::status::Status;
@@ -9,7 +9,7 @@ const PIECE: usize = 4096;
 
 /// Puts the text in pieces, the last one shorter; whether the sink took it whole.
 fn put_all<O: Sink>(out: &mut O, text: &[u8]) -> bool
-    ensures { Puts (O.taken out.old) (O.taken out.new) (O.faults out.old) (O.faults out.new) text.now result }
+    ensures { Puts (O.state out.old) (O.state out.new) text.now result }
 {
     let mut at = 0;
     while at < text.len() {
@@ -24,7 +24,7 @@ fn put_all<O: Sink>(out: &mut O, text: &[u8]) -> bool
 
 /// Puts the text; the status, or that of a write that failed.
 pub fn put_as<O: Sink>(out: &mut O, status: Status, text: &[u8]) -> Status
-    ensures { IsPut (O.taken out.old) (O.taken out.new) (O.faults out.old) (O.faults out.new) status text.now result }
+    ensures { IsPut (O.state out.old) (O.state out.new) status text.now result }
 {
     if put_all(out, text) {
         status
@@ -35,11 +35,13 @@ pub fn put_as<O: Sink>(out: &mut O, status: Status, text: &[u8]) -> Status
 
 /// Ends a command: puts its answer, or what is due in its place.
 pub fn finish<O: Sink>(out: &mut O, outcome: Result<Vec<u8>, Early>) -> Status
-    ensures { Finishes (O.taken out.old) (O.taken out.new) (O.faults out.old) (O.faults out.new) outcome result }
+    ensures { IsPut (O.state out.old) (O.state out.new) (ending_of outcome).0 (ending_of outcome).1 result }
 {
     match outcome {
         Ok(text) => put_as(out, Status::Done, &text),
-        Err(Early::Said(due)) => put_as(out, due.status, &due.text),
+        Err(Early::Said { verdict, text }) => put_as(out, verdict.status(), &text),
+        Err(Early::Missing { text }) => put_as(out, Status::NoFile, &text),
+        Err(Early::Fault { text }) => put_as(out, Status::ReadFault, &text),
         Err(Early::Memory) => put_as(out, Status::NoMemory, b"no memory\n"),
     }
 }

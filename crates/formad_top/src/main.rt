@@ -3,7 +3,7 @@
 
 #[cfg(test)]
 mod tests;
-mod top;
+pub mod top;
 mod words;
 
 ghost use Rattle.std.specs.Prelude.{◌≡◌, ◌<◌};

@@ -1,10 +1,13 @@
-ghost use Rattle.std.specs.Prelude.{◌≡◌, None};
+ghost use Rattle.std.specs.Prelude.{◌≡◌, ℕ, List, Some};
 ghost use Rattle.std.specs.Option.{ForSome};
-ghost use Rattle.ending.specs.Ends.{IsAnswer, IsExact, IsComplete};
+ghost use Rattle.outside.specs.States.{Files};
+ghost use Rattle.ending.specs.Ends.{IsAnswer, IsExact, IsComplete, HasBadWords, LacksFile};
 ghost use Rattle.formad_words.specs.Grammar.{words_in};
-ghost use Rattle.formad_top.specs.Top.{command_plan, plan_of, HasBadWords, IsMissing};
+ghost use Rattle.commands.specs.Plans.{command_plan};
+ghost use Rattle.formad_top.specs.Top.{plan_of};
+ghost use Rattle.formad_top.specs.Headline.{HasDone};
 
-use commands::run_one;
+use commands::outcome_of;
 use ending::{Status, finish, put_as};
 use fl_base::Name;
 use formad_words::{Words, WordsError, read_words};
@@ -14,38 +17,21 @@ use std::alloc::Global;
 use std::sync::ledger::Ledger;
 use std::thread::Threads;
 
-/// `run` on one thread.
-pub fn command_run_one<F: Folder, O: Sink, L: Ledger>(
+/// A command that was read, on one thread.
+pub fn command<F: Folder, O: Sink, L: Ledger>(
     alloc: Global,
     words: &Words,
     folder: &mut F,
     out: &mut O,
     steps: &mut Steps<L>,
 ) -> Status
-    ensures { IsAnswer (F.contents folder.old) (F.faults folder.old) (F.faults folder.new)
-        (O.taken out.old) (O.taken out.new) (O.faults out.old) (O.faults out.new) (command_plan words.now) result }
+    ensures answer { IsAnswer (F.state folder.old) (F.state folder.new) (O.state out.old) (O.state out.new)
+        (Some (command_plan words.now)) result }
+    ensures headline { result ≡ Status.Done → (files : Files) (sink : List ℕ) → (F.state folder.old).contents ≡ Some files →
+        (O.state out.old).taken ≡ Some sink → HasDone files (Some words.now) sink (O.state out.new).taken steps.old steps.new }
 {
-    match words {
-        Words::Run {
-            file,
-            values,
-            seed,
-            of,
-            wrt,
-        } => {
-            let outcome = run_one(
-                alloc,
-                folder,
-                file,
-                values,
-                seed,
-                of.as_slice(),
-                wrt.as_slice(),
-                steps,
-            );
-            finish(out, outcome)
-        }
-    }
+    let outcome = outcome_of(alloc, folder, words, steps);
+    finish(out, outcome)
 }
 
 /// The command of the words, or that they are none.
@@ -56,11 +42,13 @@ fn dispatch<F: Folder, O: Sink, L: Ledger>(
     out: &mut O,
     steps: &mut Steps<L>,
 ) -> Status
-    ensures { IsAnswer (F.contents folder.old) (F.faults folder.old) (F.faults folder.new)
-        (O.taken out.old) (O.taken out.new) (O.faults out.old) (O.faults out.new) (plan_of words.now) result }
+    ensures answer { IsAnswer (F.state folder.old) (F.state folder.new) (O.state out.old) (O.state out.new)
+        (plan_of words.now) result }
+    ensures headline { result ≡ Status.Done → (files : Files) (sink : List ℕ) → (F.state folder.old).contents ≡ Some files →
+        (O.state out.old).taken ≡ Some sink → HasDone files (words_in words.now) sink (O.state out.new).taken steps.old steps.new }
 {
     match read_words(alloc, words) {
-        Ok(words) => command_run_one(alloc, &words, folder, out, steps),
+        Ok(words) => command(alloc, &words, folder, out, steps),
         Err(WordsError::Bad) => put_as(out, Status::BadWords, b"bad words\n"),
         Err(WordsError::Memory) => put_as(out, Status::NoMemory, b"no memory\n"),
     }
@@ -79,17 +67,24 @@ pub fn formad<R: Threads + Sync, F: Folder, O: Sink, G: Gate + Sync, L: Ledger>(
 ) -> Status
     // What comes of the words' plan, or want of memory, and its whole text; or a write fault, and a front of that text. A
     // read or a write fault comes only where its count rose.
-    ensures answer { IsAnswer (F.contents folder.old) (F.faults folder.old) (F.faults folder.new)
-        (O.taken out.old) (O.taken out.new) (O.faults out.old) (O.faults out.new) (plan_of words.now) result }
-    // The one status that is due for the words and the files, where no fault came and memory was there.
-    ensures exactly { ForSome (F.contents folder.old) (λ files. ForSome (O.taken out.old) (λ sink.
-        IsExact files (plan_of words.now) sink (O.taken out.new) result)) }
-    ensures complete { ForSome (F.contents folder.old) (λ files. ForSome (O.taken out.old) (λ sink.
-        IsComplete files (plan_of words.now) sink (O.taken out.new) result)) }
-    ensures bad_words { ForSome (F.contents folder.old) (λ files. ForSome (O.taken out.old) (λ sink.
-        HasBadWords (words_in words.now) result)) }
-    ensures no_file { result ≡ Status.NoFile → ForSome (F.contents folder.old) (λ files. ForSome (O.taken out.old) (λ sink.
-        IsMissing files (words_in words.now) sink (O.taken out.new))) }
+    ensures answer { IsAnswer (F.state folder.old) (F.state folder.new) (O.state out.old) (O.state out.new)
+        (plan_of words.now) result }
+
+    // The one status and text that are due for the words and the files, where no fault came and memory was there.
+    ensures exactly { ForSome (F.state folder.old).contents (λ files. ForSome (O.state out.old).taken (λ sink.
+        IsExact files (plan_of words.now) sink (O.state out.new).taken result)) }
+    ensures complete { ForSome (F.state folder.old).contents (λ files. ForSome (O.state out.old).taken (λ sink.
+        IsComplete files (plan_of words.now) sink (O.state out.new).taken result)) }
+
+    // A run that is done has written the values and the adjoints of its program, and nothing else, and has made one step for each
+    // statement.
+    ensures headline { result ≡ Status.Done → ForSome (F.state folder.old).contents (λ files. ForSome (O.state out.old).taken (λ sink.
+        HasDone files (words_in words.now) sink (O.state out.new).taken steps.old steps.new)) }
+
+    ensures bad_words { ForSome (F.state folder.old).contents (λ files. ForSome (O.state out.old).taken (λ sink.
+        HasBadWords (plan_of words.now) result)) }
+    ensures no_file { result ≡ Status.NoFile → ForSome (F.state folder.old).contents (λ files. ForSome (O.state out.old).taken (λ sink.
+        LacksFile files (plan_of words.now) sink (O.state out.new).taken)) }
 {
     dispatch(alloc, words, folder, out, steps)
 }

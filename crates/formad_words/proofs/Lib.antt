@@ -1,3 +1,6 @@
-mod Cases
+pub mod Cases
 pub mod NamesRead
-pub mod WordsRead
+pub mod NumbersRead
+pub mod Positions
+pub mod SettingsRead
+pub mod Shorts

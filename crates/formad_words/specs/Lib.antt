@@ -1,3 +1,8 @@
+pub mod Commands
 pub mod Grammar
-pub mod Keys
 pub mod Names
+pub mod Numbers
+pub mod Reads
+pub mod Schedules
+pub mod SettingWords
+pub mod SettingsWords

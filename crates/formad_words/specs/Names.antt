@@ -12,6 +12,10 @@ is_name_byte b = is_ascii_alphanumeric b || b == 95
 abbrev pub is_name : List ℕ → Bool
 is_name bs = is_ascii_alphabetic (slice_index bs 0) && nat_le (length bs) 63 && list_all is_name_byte bs
 
+-- a name, lowered
+abbrev pub name_in : List ℕ → Option (List ℕ)
+name_in text = if is_name text then Some (str_to_ascii_lowercase text) else None
+
 -- no two are the same
 abbrev pub is_distinct : List (List ℕ) → Bool
 is_distinct [] = true

@@ -1,20 +1,21 @@
+ghost use Rattle.std.specs.Prelude.{◌≡◌};
+ghost use Rattle.formad_words.specs.declared.error.WordsError.TheVariants.{Memory as memory};
+
 use fl_base::Memory;
 use std::alloc::AllocError;
+use thiserror::Error;
 
 /// Why words are none of a command.
-#[derive(Debug, Drop)]
+#[derive(Debug, Drop, Error)]
 pub enum WordsError {
-    /// They aren't in the grammar.
+    #[error("the words aren't in the grammar")]
     Bad,
-    /// Memory was wanting.
+    #[error("memory was wanting")]
     Memory,
 }
 
 impl From<AllocError> for WordsError {
-    ghost use Rattle.std.specs.Prelude.{◌≡◌};
-    ghost use Rattle.formad_words.specs.declared.error.WordsError.TheVariants as WordsError;
-
-    ghost from_gives = { λ _ e. e ≡ WordsError.Memory };
+    ghost from_gives = { λ _ e. e ≡ memory };
 
     fn from(_: AllocError) -> WordsError {
         WordsError::Memory
@@ -22,10 +23,7 @@ impl From<AllocError> for WordsError {
 }
 
 impl From<Memory> for WordsError {
-    ghost use Rattle.std.specs.Prelude.{◌≡◌};
-    ghost use Rattle.formad_words.specs.declared.error.WordsError.TheVariants as WordsError;
-
-    ghost from_gives = { λ _ e. e ≡ WordsError.Memory };
+    ghost from_gives = { λ _ e. e ≡ memory };
 
     fn from(_: Memory) -> WordsError {
         WordsError::Memory

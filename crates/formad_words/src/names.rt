@@ -1,7 +1,8 @@
-ghost use Rattle.std.specs.Prelude.{◌≡◌, ◌≢◌, ◌==◌, IfOk, MatchResult, Some, None, map};
+ghost use Rattle.std.specs.Prelude.{◌≡◌, ◌==◌, IfOk, map};
 ghost use Rattle.std.specs.List.{slice_split, list_all, list_any};
 ghost use Rattle.std.specs.Str.{str_to_ascii_lowercase, bytes_eq};
-ghost use Rattle.formad_words.specs.Names.{is_name_byte as is_name_byte_lem, is_name as is_name_lem, is_distinct, names_in};
+ghost use Rattle.formad_words.specs.Names.{is_name_byte as is_name_byte_lem, is_name as is_name_lem, is_distinct, name_in, names_in};
+ghost use Rattle.formad_words.specs.Reads.{Reads};
 
 use crate::error::WordsError;
 use fl_base::{Items, Memory, Name};
@@ -66,6 +67,16 @@ fn lowered(alloc: Global, bytes: &[u8]) -> Result<Name, AllocError>
     Ok(Name::from_vec(lowered))
 }
 
+/// A name, lowered.
+pub(crate) fn read_name(alloc: Global, text: &[u8]) -> Result<Name, WordsError>
+    ensures { Reads (name_in text.now) result }
+{
+    if !is_name(text) {
+        return Err(WordsError::Bad);
+    }
+    Ok(lowered(alloc, text)?)
+}
+
 fn all_lowered(alloc: Global, parts: &[&[u8]]) -> Result<Vec<Name>, AllocError>
     ensures { IfOk result (λ names. names.items ≡ map (λ part. str_to_ascii_lowercase part.now) parts.now) }
 {
@@ -102,7 +113,7 @@ fn are_distinct(names: &[Name]) -> bool
 
 /// The names of a list with commas between.
 pub(crate) fn read_names(alloc: Global, text: &[u8]) -> Result<Items<Name>, WordsError>
-    ensures { MatchResult result (λ names. names_in text.now ≡ Some names) (λ e. e ≢ WordsError.Memory → names_in text.now ≡ None) }
+    ensures { Reads (names_in text.now) result }
 {
     let parts = parts(alloc, text)?;
     if !are_names(&parts) {

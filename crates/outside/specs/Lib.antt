@@ -3,3 +3,4 @@ pub mod Causes
 pub mod Files
 pub mod MemFiles
 pub mod MemTaken
+pub mod States

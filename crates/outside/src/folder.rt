@@ -1,20 +1,21 @@
-ghost use Rattle.std.specs.Prelude.{◌≡◌, ℕ, List, IfOk, IfSome, IsErrOf, ◌≤◌, length};
-ghost use Rattle.std.specs.declared.option.Option.{Option};
+ghost use Rattle.std.specs.Prelude.{◌≡◌, IfOk, IfSome, IsErrOf, ◌≤◌, length};
 ghost use Rattle.outside.specs.Causes.{HasCause};
+ghost use Rattle.outside.specs.States.{FolderState};
 
 use fl_base::Name;
 use std::alloc::Global;
+use thiserror::Error;
 
 /// Why a folder gives no bytes.
-#[derive(Debug, Drop)]
+#[derive(Debug, Drop, Error)]
 pub enum TakeError {
-    /// No file has the name.
+    #[error("no file has the name")]
     Missing,
-    /// The file has more bytes than the limit.
+    #[error("the file has more bytes than the limit")]
     TooLong,
-    /// The folder failed.
+    #[error("the folder failed")]
     Failed,
-    /// Memory was wanting.
+    #[error("memory was wanting")]
     Memory,
 }
 
@@ -22,16 +23,13 @@ pub enum TakeError {
 pub trait Folder {
     ghost use Rattle.outside.specs.Files.{Takes};
 
-    /// What stands under each name, where the folder tells it.
-    ghost contents: { Self → Option (List ℕ → Option (List ℕ)) };
-
-    /// How often the folder has failed.
-    ghost faults: { Self → ℕ };
+    /// What stands under each name, where the folder tells it, and how often it has failed.
+    ghost state: { Self → FolderState };
 
     /// The bytes under a name, never more than the limit.
     fn take(&mut self, alloc: Global, name: &Name, limit: u64) -> Result<Vec<u8>, TakeError>
         ensures within { IfOk result (λ bytes. length bytes.items ≤ limit) }
-        ensures same { contents self.new ≡ contents self.old }
-        ensures told { IfSome (contents self.old) (λ files. Takes (files name.now) limit result) }
-        ensures cause { HasCause (faults self.old) (faults self.new) (IsErrOf result TakeError.Failed) };
+        ensures same { (state self.new).contents ≡ (state self.old).contents }
+        ensures told { IfSome (state self.old).contents (λ files. Takes (files name.now) limit result) }
+        ensures cause { HasCause (state self.old).faults (state self.new).faults (IsErrOf result TakeError.Failed) };
 }

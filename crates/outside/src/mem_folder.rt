@@ -90,9 +90,7 @@ pub(crate) fn count(calls: &mut u64, fails: &[u64]) -> bool
 }
 
 impl Folder for MemFolder {
-    ghost contents = { λ folder. Some (found folder.files) };
-
-    ghost faults = { λ folder. folder.faults };
+    ghost state = { λ folder. record { contents = Some (found folder.files); faults = folder.faults } };
 
     fn take(&mut self, alloc: Global, name: &Name, limit: u64) -> Result<Vec<u8>, TakeError>
         ensures within { IfOk result (λ bytes. length bytes.items ≤ limit) }

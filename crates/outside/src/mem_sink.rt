@@ -55,9 +55,7 @@ impl MemSink {
 }
 
 impl Sink for MemSink {
-    ghost taken = { λ sink. Some sink.taken };
-
-    ghost faults = { λ sink. sink.faults };
+    ghost state = { λ sink. record { taken = Some sink.taken; faults = sink.faults } };
 
     fn put(&mut self, piece: &[u8]) -> Result<(), Failed>
         ensures told { MatchResult result

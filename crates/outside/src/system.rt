@@ -71,9 +71,7 @@ fn read_file<R: Files>(rt: &R, alloc: Global, name: &Name, limit: u64) -> Result
 }
 
 impl<R: Files> Folder for FileFolder<'_, R> {
-    ghost contents = { λ _. None };
-
-    ghost faults = { λ folder. folder.faults };
+    ghost state = { λ folder. record { contents = None; faults = folder.faults } };
 
     fn take(&mut self, alloc: Global, name: &Name, limit: u64) -> Result<Vec<u8>, TakeError> {
         match read_file(self.rt, alloc, name, limit) {
@@ -112,9 +110,7 @@ fn write_whole<R: Print>(rt: &R, piece: &[u8]) -> Result<(), Failed> {
 }
 
 impl<R: Print> Sink for StdSink<'_, R> {
-    ghost taken = { λ _. None };
-
-    ghost faults = { λ sink. sink.faults };
+    ghost state = { λ sink. record { taken = None; faults = sink.faults } };
 
     fn put(&mut self, piece: &[u8]) -> Result<(), Failed> {
         match write_whole(self.rt, piece) {

@@ -1,3 +1,2 @@
-pub mod Fault
 pub mod NamesLaws
-pub mod ProgramPast
+pub mod ProgramDone

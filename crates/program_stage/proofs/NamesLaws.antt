@@ -3,10 +3,10 @@ use Rattle.std.proofs.Common.{◌≡◌, ℕ, suc, ◌+◌, ◌<◌, ◌≤◌, 
 use Rattle.std.proofs.Math.Seq.{drop-cons}
 use Rattle.std.proofs.lemmas.Grind.{common_steps}
 use Rattle.ending.specs.declared.early.Early.{Early}
-use Rattle.ending.specs.declared.early.Early.TheVariants.{Said, Memory}
-use Rattle.ending.specs.declared.status.Status.{Status}
-use Rattle.ending.specs.declared.status.Status.TheVariants.{Refused, ReadFault}
-use Rattle.ending.specs.Plan.{Files, Plan, Says, LeadsTo, said, line}
+use Rattle.ending.specs.declared.verdict.Verdict.TheVariants.{Refused}
+use Rattle.outside.specs.States.{Files}
+use Rattle.ending.specs.Plan.{Plan, Says, LeadsTo, line}
+use Rattle.ending.proofs.Follow.{says_part}
 use Rattle.ending.specs.Stage.{IsPart, IsSaid}
 use Rattle.fl_ast.specs.declared.stmt.Program.{Program}
 use Rattle.fl_types.specs.Supported.{is_ring_argument}
@@ -31,11 +31,7 @@ stopped program names i name rest h e is = opened program names i name rest h e 
 pub refuses_name : (program : Program) (names : List (List ℕ)) (name : List ℕ) (early : Early) → IsSaid Refused (line (codes "refused name ") name) early →
     ((rest : Unit {0} → Plan) → names_stage program names rest ≡ Says Refused (line (codes "refused name ") name)) →
     IsPart {T = Unit {0}} (λ _. tt) (names_stage program names) (Err early)
-refuses_name program names name (Said due) is e = record {
-  clear = λ h. let no : Refused ≡ ReadFault = sym is.0 ∙ h in cc;
-  told = λ files rest. rw (is.0, is.1, e rest) said;
-}
-refuses_name program names name Memory is e = record { clear = λ h. h; told = λ files. tt }
+refuses_name program names name early is e = says_part is e
 
 -- and all that are lead on
 pub names_pass : (program : Program) (names : List (List ℕ)) (i : ℕ) → length names ≤ i →

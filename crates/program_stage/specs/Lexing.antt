@@ -1,21 +1,19 @@
 -- What is said of a text that has no tokens.
-use Rattle.std.specs.Prelude.{ℕ, List, codes}
-use Rattle.ending.specs.declared.status.Status.{Status}
-use Rattle.ending.specs.declared.status.Status.TheVariants.{Refused, NoMemory}
+use Rattle.std.specs.Prelude.{ℕ, List, codes, None}
 use Rattle.fl_lexer.specs.declared.error.LexError.{LexError}
 use Rattle.fl_lexer.specs.declared.error.LexError.TheVariants.{BadByte, LongName, LongLine, OpenContinuation, WideLiteral, Memory}
-use Rattle.ending.specs.Plan.{Plan, or_say}
+use Rattle.ending.specs.Plan.{Plan, Saying, or_say}
 use Rattle.fl_lexer.specs.Reading.{lexed}
 use Rattle.tokens.specs.declared.Token.{Token}
 use Rattle.program_stage.specs.Lines.{refused_line, refused_column}
 
-abbrev pub say_lex : LexError → Status × List ℕ
-say_lex (BadByte line col) = (Refused, refused_column line col (codes "bad byte"))
-say_lex (LongName line) = (Refused, refused_line line (codes "long name"))
-say_lex (LongLine line) = (Refused, refused_line line (codes "long line"))
-say_lex (OpenContinuation line) = (Refused, refused_line line (codes "open continuation"))
-say_lex (WideLiteral line) = (Refused, refused_line line (codes "wide literal"))
-say_lex Memory = (NoMemory, codes "no memory\n")
+abbrev pub say_lex : LexError → Saying
+say_lex (BadByte line col) = refused_column line col (codes "bad byte")
+say_lex (LongName line) = refused_line line (codes "long name")
+say_lex (LongLine line) = refused_line line (codes "long line")
+say_lex (OpenContinuation line) = refused_line line (codes "open continuation")
+say_lex (WideLiteral line) = refused_line line (codes "wide literal")
+say_lex Memory = None
 
 -- the tokens of a text
 unfoldable pub lexed_stage : List ℕ → (List Token → Plan) → Plan

@@ -1,3 +1,4 @@
+pub mod Accepted
 pub mod Lexing
 pub mod Lines
 pub mod Names

@@ -1,6 +1,6 @@
 -- The names that a run is asked for.
 use Rattle.std.specs.Prelude.{ℕ, List, [], ◌∷◌, codes, if◌then◌else◌}
-use Rattle.ending.specs.declared.status.Status.TheVariants.{Refused}
+use Rattle.ending.specs.declared.verdict.Verdict.TheVariants.{Refused}
 use Rattle.ending.specs.Plan.{Plan, Says, line}
 use Rattle.fl_ast.specs.declared.stmt.Program.{Program}
 use Rattle.fl_types.specs.Supported.{is_ring_argument}

@@ -1,8 +1,6 @@
 -- What is said of tokens that aren't parsed.
-use Rattle.std.specs.Prelude.{ℕ, List, ◌++◌, codes}
-use Rattle.ending.specs.declared.status.Status.{Status}
-use Rattle.ending.specs.declared.status.Status.TheVariants.{Refused, NoMemory}
-use Rattle.ending.specs.Plan.{Plan, or_say}
+use Rattle.std.specs.Prelude.{ℕ, List, ◌++◌, codes, None}
+use Rattle.ending.specs.Plan.{Plan, Saying, or_say}
 use Rattle.tokens.specs.declared.Token.{Token}
 use Rattle.fl_ast.specs.declared.stmt.Program.{Program}
 use Rattle.fl_parser.specs.declared.error.ParseError.{ParseError}
@@ -13,19 +11,19 @@ use Rattle.fl_parser.specs.Parsed.{parsed}
 use Rattle.program_stage.specs.Lines.{not_built, refused_line}
 
 -- of a directive
-abbrev pub say_clause : ClauseError → Status × List ℕ
-say_clause (clause.Unknown line word) = (Refused, refused_line line (codes "unknown clause " ++ word))
-say_clause (clause.Twice line name) = (Refused, refused_line line (codes "clause twice " ++ name))
-say_clause (clause.Form line) = (Refused, refused_line line (codes "clause form"))
-say_clause clause.Memory = (NoMemory, codes "no memory\n")
+abbrev pub say_clause : ClauseError → Saying
+say_clause (clause.Unknown line word) = refused_line line (codes "unknown clause " ++ word)
+say_clause (clause.Twice line name) = refused_line line (codes "clause twice " ++ name)
+say_clause (clause.Form line) = refused_line line (codes "clause form")
+say_clause clause.Memory = None
 
-abbrev pub say_parse : ParseError → Status × List ℕ
+abbrev pub say_parse : ParseError → Saying
 say_parse (Expected line col) = not_built
-say_parse (Construct line word) = (Refused, refused_line line (codes "construct " ++ word))
+say_parse (Construct line word) = refused_line line (codes "construct " ++ word)
 say_parse (Clause error) = say_clause error
 say_parse (Deep line) = not_built
 say_parse (Many line) = not_built
-say_parse Memory = (NoMemory, codes "no memory\n")
+say_parse Memory = None
 
 -- the program of the tokens
 unfoldable pub parsed_stage : List ℕ → List Token → (Program → Plan) → Plan

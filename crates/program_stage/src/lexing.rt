@@ -1,6 +1,5 @@
 ghost use Rattle.std.specs.Prelude.{◌<◌, IfOk, length};
-ghost use Rattle.ending.specs.Stage.{IsPart, IsRefusal};
-ghost use Rattle.fl_lexer.specs.declared.error.LexError.TheVariants.{Memory as memory};
+ghost use Rattle.ending.specs.Stage.{IsPart, IsSaying};
 ghost use Rattle.program_stage.specs.Lexing.{say_lex, lexed_stage};
 ghost use Rattle.tokens.specs.Spans.{Are_spans};
 ghost use Rattle.tokens.specs.Spelled.{AreSpelled};
@@ -13,7 +12,7 @@ use tokens::Token;
 
 /// What is said of a text that has no tokens.
 fn lex_refused(alloc: Global, error: LexError) -> Early
-    ensures { IsRefusal memory say_lex error result }
+    ensures { IsSaying (say_lex error) result }
 {
     match error {
         LexError::BadByte { line, col } => refused_column(alloc, line, col, b"bad byte"),

@@ -4,10 +4,10 @@
 mod lexing;
 mod line;
 mod names;
-mod not_built;
 mod program;
 mod syntax;
 mod typing;
+mod unbuilt;
 
-pub use names::check_names;
-pub use program::load_program;
+pub use program::{load_program, load_subject};
+pub use unbuilt::not_built;

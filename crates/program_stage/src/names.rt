@@ -1,7 +1,7 @@
 ghost use Rattle.ending.specs.Stage.{IsPart};
 ghost use Rattle.program_stage.specs.Names.{names_stage};
 
-use ending::{Early, Status, said_name};
+use ending::{Early, Verdict, said_name};
 use fl_base::Name;
 use fl_types::Typed;
 use std::alloc::Global;
@@ -12,7 +12,7 @@ pub fn check_names(alloc: Global, typed: &Typed, names: &[Name]) -> Result<(), E
 {
     for name in names {
         if !typed.is_ring_argument(name) {
-            return Err(said_name(alloc, Status::Refused, b"refused name ", name));
+            return Err(said_name(alloc, Verdict::Refused, b"refused name ", name));
         }
     }
     Ok(())

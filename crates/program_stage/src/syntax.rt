@@ -1,13 +1,11 @@
 ghost use Rattle.std.specs.Prelude.{◌+◌, ◌^◌, ◌<◌, length};
-ghost use Rattle.ending.specs.Stage.{IsPart, IsRefusal};
-ghost use Rattle.fl_parser.specs.declared.error.ParseError.TheVariants.{Memory as memory};
-ghost use Rattle.parsing.specs.declared.fault.ClauseError.TheVariants.{Memory as wanting};
+ghost use Rattle.ending.specs.Stage.{IsPart, IsSaying};
 ghost use Rattle.program_stage.specs.Parsing.{say_parse, say_clause, parsed_stage};
 ghost use Rattle.tokens.specs.Spans.{Are_spans};
 ghost use Rattle.tokens.specs.Spelled.{AreSpelled};
 
 use crate::line::{refused_line, refused_word};
-use crate::not_built::not_built;
+use crate::unbuilt::not_built;
 use ending::Early;
 use fl_ast::Program;
 use fl_parser::{ClauseError, ParseError, parse};
@@ -16,7 +14,7 @@ use tokens::Token;
 
 /// What is said of a directive that isn't read.
 fn clause_refused(alloc: Global, error: ClauseError) -> Early
-    ensures { IsRefusal wanting say_clause error result }
+    ensures { IsSaying (say_clause error) result }
 {
     match error {
         ClauseError::Unknown { line, word } => {
@@ -30,7 +28,7 @@ fn clause_refused(alloc: Global, error: ClauseError) -> Early
 
 /// What is said of tokens that aren't parsed.
 fn parse_refused(alloc: Global, error: ParseError) -> Early
-    ensures { IsRefusal memory say_parse error result }
+    ensures { IsSaying (say_parse error) result }
 {
     match error {
         ParseError::Expected { .. } | ParseError::Deep { .. } | ParseError::Many { .. } => {

@@ -1,8 +1,7 @@
-ghost use Rattle.ending.specs.Stage.{IsPart, IsRefusal};
-ghost use Rattle.fl_types.specs.declared.typed.TypeError.TheVariants.{Memory as memory};
+ghost use Rattle.ending.specs.Stage.{IsPart, IsSaying};
 ghost use Rattle.program_stage.specs.Typing.{say_type, typed_stage};
 
-use crate::not_built::not_built;
+use crate::unbuilt::not_built;
 use ending::Early;
 use fl_ast::Program;
 use fl_types::{TypeError, Typed, check};
@@ -10,7 +9,7 @@ use std::alloc::Global;
 
 /// What is said of a program that isn't typed.
 fn type_refused(alloc: Global, error: TypeError) -> Early
-    ensures { IsRefusal memory say_type error result }
+    ensures { IsSaying (say_type error) result }
 {
     match error {
         TypeError::NotBuilt => not_built(alloc),

@@ -101,7 +101,13 @@ impl Layout {
         })
     }
 
-    fn entries(&self, alloc: Global, words: &[u64], names: &[Name]) -> Result<Items<Entry>, Memory>
+    /// The entries of names, from the words of all places.
+    pub fn entries(
+        &self,
+        alloc: Global,
+        words: &[u64],
+        names: &[Name],
+    ) -> Result<Items<Entry>, Memory>
         requires { length words.now ≡ length (keys_of self.now) }
         ensures { IfOk result (λ entries. entries ≡ entries_at self.now words.now names.now) }
     {

@@ -1,7 +1,7 @@
-use Rattle.std.proofs.Common.{Ok, Err, codes}
+use Rattle.std.proofs.Common.{refl, Ok, Err, codes}
 use Rattle.ending.proofs.Follow.{finds, refuses}
 use Rattle.data_stages.specs.Faults.{say_data}
-use Rattle.data_stages.proofs.Found.{args_found, data_faultless}
+use Rattle.data_stages.proofs.Found.{args_found}
 use Rattle.data_stages.proofs.data.args_of.Goals as goal
 
 pub returns-in-Ok : goal.returns-in-Ok
@@ -11,5 +11,5 @@ returns-in-Ok c = finds _ _ (args_found c.args.typed.now c.args.bytes.now (Ok c.
 pub returns-in-Err : goal.returns-in-Err
 unfolding Rattle.data_stages.specs.Files.args_part
 returns-in-Err c =
-    refuses _ (say_data (codes "data")) _ _ (args_found c.args.typed.now c.args.bytes.now (Err c.in-Err.error) c.in-Err.ensures.json c.in-Err.ensures.no_json)
-    c.data_refused.ensures (data_faultless (codes "data"))
+    refuses _ (say_data (codes "data")) _ _ refl (args_found c.args.typed.now c.args.bytes.now (Err c.in-Err.error) c.in-Err.ensures.json c.in-Err.ensures.no_json)
+    c.data_refused.ensures

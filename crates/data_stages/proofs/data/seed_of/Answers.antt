@@ -1,7 +1,7 @@
-use Rattle.std.proofs.Common.{Ok, Err, codes}
+use Rattle.std.proofs.Common.{refl, Ok, Err, codes}
 use Rattle.ending.proofs.Follow.{finds, refuses}
 use Rattle.data_stages.specs.Faults.{say_data}
-use Rattle.data_stages.proofs.Found.{seed_found, data_faultless}
+use Rattle.data_stages.proofs.Found.{seed_found}
 use Rattle.data_stages.proofs.data.seed_of.Goals as goal
 
 pub returns-in-Ok : goal.returns-in-Ok
@@ -11,5 +11,5 @@ returns-in-Ok c = finds _ _ (seed_found c.args.typed.now c.args.args.now c.args.
 pub returns-in-Err : goal.returns-in-Err
 unfolding Rattle.data_stages.specs.Files.seed_part
 returns-in-Err c =
-    refuses _ (say_data (codes "seed")) _ _ (seed_found c.args.typed.now c.args.args.now c.args.of.now c.args.bytes.now (Err c.in-Err.error) c.in-Err.ensures.json c.in-Err.ensures.no_json)
-    c.data_refused.ensures (data_faultless (codes "seed"))
+    refuses _ (say_data (codes "seed")) _ _ refl (seed_found c.args.typed.now c.args.args.now c.args.of.now c.args.bytes.now (Err c.in-Err.error) c.in-Err.ensures.json c.in-Err.ensures.no_json)
+    c.data_refused.ensures

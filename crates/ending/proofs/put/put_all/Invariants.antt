@@ -5,8 +5,8 @@ use Rattle.ending.proofs.put.put_all.Given as goal
 abbrev pub invariant-loop-at : goal.invariant-loop-at
 invariant-loop-at g l = record {
   within : l.at ≤ length l.text;
-  later : g.O.Sink.faults l.fn.out ≤ g.O.Sink.faults l.out;
-  taken : (sink : List ℕ) → g.O.Sink.taken l.fn.out ≡ Some sink → g.O.Sink.taken l.out ≡ Some (sink ++ take l.at l.text);
+  later : (g.O.Sink.state l.fn.out).faults ≤ (g.O.Sink.state l.out).faults;
+  taken : (sink : List ℕ) → (g.O.Sink.state l.fn.out).taken ≡ Some sink → (g.O.Sink.state l.out).taken ≡ Some (sink ++ take l.at l.text);
 }
 
 abbrev pub decreases-loop-at : goal.decreases-loop-at

@@ -1,5 +1,5 @@
+use Rattle.std.proofs.Common.{refl}
 use Rattle.ending.proofs.Follow.{finds, refuses}
-use Rattle.program_stage.proofs.Fault.{parse_faultless}
 use Rattle.program_stage.proofs.syntax.program_of.Goals as goal
 
 pub returns-in-Ok : goal.returns-in-Ok
@@ -8,4 +8,4 @@ returns-in-Ok c = finds _ _ c.in-Ok.ensures.parsed
 
 pub returns-in-Err : goal.returns-in-Err
 unfolding Rattle.program_stage.specs.Parsing.parsed_stage
-returns-in-Err c = refuses _ _ _ _ c.in-Err.ensures.parsed c.parse_refused.ensures parse_faultless
+returns-in-Err c = refuses _ _ _ _ refl c.in-Err.ensures.parsed c.parse_refused.ensures

@@ -1,0 +1,22 @@
+use Rattle.std.proofs.Common.{refl}
+use Rattle.ending.proofs.Follow.{goes_on, ends_at, stands, says_part}
+use Rattle.commands.proofs.unbuilt.tangent.Goals as goal
+
+pub returns-in_err-typed : goal.returns-in_err-typed
+unfolding Rattle.commands.specs.Unbuilt.tangent_stage
+returns-in_err-typed g c = ends_at c.in_err-typed.ensures c.from_residual.ensures
+
+pub returns-in_err-_args : goal.returns-in_err-_args
+unfolding Rattle.commands.specs.Unbuilt.tangent_stage
+returns-in_err-_args g c = goes_on c.in_ok-typed.ensures (ends_at c.in_err-_args.ensures c.from_residual-in_err-_args.ensures)
+
+pub returns-in_err-load_unread : goal.returns-in_err-load_unread
+unfolding Rattle.commands.specs.Unbuilt.tangent_stage
+returns-in_err-load_unread g c =
+    goes_on c.in_ok-typed.ensures (goes_on c.in_ok-_args.ensures (ends_at c.in_err-load_unread.ensures c.from_residual-in_err-load_unread.ensures))
+
+pub returns : goal.returns
+unfolding Rattle.commands.specs.Unbuilt.tangent_stage
+returns g c =
+    goes_on c.in_ok-typed.ensures (goes_on c.in_ok-_args.ensures (goes_on c.in_ok-load_unread.ensures
+    (stands (says_part c.not_built.ensures (λ rest. refl)))))
