@@ -1,43 +1,10 @@
-use crate::programs::{POLY, typed};
-use data_io::{Answer, read_args, read_seed, write_answer};
+use data_io::{Answer, write_answer};
 use fl_ast::Name;
 use fl_base::Items;
 use fl_types::{Choice, Choices, Chosen};
 use std::alloc::Global;
 use std::test::Fail;
-use store_core::{Entry, Layout, Store, Tape, Weights};
-
-fn opening(alloc: Global) -> Result<(Layout, Store), Fail> {
-    let typed = typed(alloc, POLY)?;
-    let args = read_args(alloc, b" {\"y\":-1, \"x\":5} ", &typed)?;
-    let layout = Layout::of(alloc, &typed, &args)?;
-    let store = layout.opening(alloc, &args)?;
-    Ok((layout, store))
-}
-
-fn seed(alloc: Global) -> Result<Weights, Fail> {
-    let typed = typed(alloc, POLY)?;
-    let args = read_args(alloc, b"{\"y\":0,\"x\":0}", &typed)?;
-    let of = [Name::of(alloc, b"y")?];
-    Ok(read_seed(alloc, b"{\"y\":7}", &typed, &args, &of)?)
-}
-
-#[test]
-fn data_and_seed_stand_in_their_places(rt: HostRuntime) -> Result<(), Fail> {
-    let (layout, mut store) = opening(rt.alloc())?;
-    layout.seed(&mut store, &seed(rt.alloc())?);
-    let copy = store.copy(rt.alloc())?;
-    assert_eq!(rt; copy.words(), [5, u64::MAX, 0, 7].as_slice());
-    Ok(())
-}
-
-#[test]
-fn a_place_has_its_name(rt: HostRuntime) -> Result<(), Fail> {
-    let (layout, _) = opening(rt.alloc())?;
-    assert_eq!(rt; layout.count(), 2);
-    assert_eq!(rt; layout.name_of(rt.alloc(), 1)?.as_slice(), b"y".as_slice());
-    Ok(())
-}
+use store_core::{Entry, Tape, Weights};
 
 #[test]
 fn words_come_off_the_tape(rt: HostRuntime) -> Result<(), Fail> {

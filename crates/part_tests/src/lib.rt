@@ -3,16 +3,10 @@
 #![tactic(auto)]
 
 #[cfg(test)]
-mod adjoints;
-#[cfg(test)]
 mod data;
 #[cfg(test)]
 mod directives;
 #[cfg(test)]
 mod lexer;
-#[cfg(test)]
-mod programs;
-#[cfg(test)]
-mod runs;
 #[cfg(test)]
 mod trees;
