@@ -1,1 +1,2 @@
+pub mod Conds
 pub mod Levels

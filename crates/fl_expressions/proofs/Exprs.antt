@@ -405,7 +405,7 @@ module _ (l : Freed) (open_ open2 : Bool) (room : Room l Deep open_ open2) (ig :
   pub unopened_begins : (d : Limit) → Begins (UnopenedGrammar open_ ig d) (on unopened)
   unopened_begins d = begins_or _ _ (on unopened) (begins_where _ _ _ (begins_in (same s.Minus) unopened _ (negated_begins d) refl refl)) (begins_in starts unopened _ (starts_begin d) refl refl)
 
-abbrev nothing_freed : (d : Limit) → Frees Nothing Deep d d
+abbrev pub nothing_freed : (d : Limit) → Frees Nothing Deep d d
 nothing_freed d = record { stays = λ _. refl; goes = λ h. differ true refl (sym h) }
 
 expr_same : (b : ℕ) (d d2 : Limit) → Frees Nothing Deep d d2 → Exact Nothing (g.expr b d) (on binds) (p.expr b d) (p.expr b d2)
