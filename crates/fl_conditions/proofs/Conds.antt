@@ -203,9 +203,14 @@ module _ (b : ℕ) (jg : Limit → Grammar Judged) where
 
   rebuilt : (d : Limit) (e : Measured) (z : Mixed) (us vs : Lexemes) → OpenedAt b d e us → ComparedGrammar b d e z vs → BracketedGrammar d z (us ++ vs)
   unfolding eg.bracketed
-  rebuilt d e z us vs (so, (x, ps, ws, (o, os, xs, m, (i, hs, ys, n, (cl, cs, zs, m2, last, e3), e2), e1), r, eq)) c =
-      (o, os, hs ++ (cs ++ (ws ++ vs)), m, (Value i, hs, cs ++ (ws ++ vs), n, (cl, cs, ws ++ vs, m2, (e, ws, vs, subst (λ (v : Measured). RestAt b d v e ws) last.0 r, c, refl), refl), refl),
-        ap (λ v. v ++ vs) (eq ∙ ap (λ v. v ++ ws) (e1 ∙ ap (λ v. os ++ v) (e2 ∙ ap (λ v. hs ++ v) (e3 ∙ ap (λ v. cs ++ v) last.1)))) ∙ regroup_back os hs cs ws vs)
+  rebuilt d e z us vs (so, (x, ps, ws, (o, os, xs, m, (i, hs, ys, n, (cl, cs, zs, m2, last, e3), e2), e1), r, eq)) c = (
+    o,
+    os,
+    hs ++ (cs ++ (ws ++ vs)),
+    m,
+    (Value i, hs, cs ++ (ws ++ vs), n, (cl, cs, ws ++ vs, m2, (e, ws, vs, subst (λ (v : Measured). RestAt b d v e ws) last.0 r, c, refl), refl), refl),
+    ap (λ v. v ++ vs) (eq ∙ ap (λ v. v ++ ws) (e1 ∙ ap (λ v. os ++ v) (e2 ∙ ap (λ v. hs ++ v) (e3 ∙ ap (λ v. cs ++ v) last.1)))) ∙ regroup_back os hs cs ws vs,
+  )
 
   back : (d : Limit) (e : Measured) (z : Mixed) (us vs : Lexemes) → eg.expr b d e us → ComparedGrammar b d e z vs → OperandGrammar d z (us ++ vs)
   back d e z us vs n c = by (expr_is_either b d e us n)

@@ -439,7 +439,7 @@ expr_exact l (suc b) (suc b2) R = sum_exact l true true always_room _ _ _ (λ _.
 some : (b : ℕ) → nat_lt 0 (suc b) ≡ true
 some b = grind (arith, nat_tests)
 
-bracket_room : (l : Freed) (b b2 : ℕ) → More l b b2 → Room l Deep (nat_lt 0 b) (nat_lt 0 b2)
+pub bracket_room : (l : Freed) (b b2 : ℕ) → More l b b2 → Room l Deep (nat_lt 0 b) (nat_lt 0 b2)
 bracket_room l zero zero R = record { grows = λ h. h; lifts = λ _. closed }
   where
     closed : false ≡ frees l Deep

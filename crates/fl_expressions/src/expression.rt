@@ -13,19 +13,19 @@ use fl_ast::BinOp;
 use parsing::{Cause, Cursor, Failure, Symbol};
 use std::alloc::Global;
 
-fn is_sum_op(tokens: &Cursor<'_>) -> bool
+pub fn is_sum_op(tokens: &Cursor<'_>) -> bool
     ensures { result ≡ reading.sees terminals.is_sum_op tokens.now }
 {
     matches!(tokens.ahead(), Some(Symbol::Plus | Symbol::Minus))
 }
 
-fn is_product_op(tokens: &Cursor<'_>) -> bool
+pub fn is_product_op(tokens: &Cursor<'_>) -> bool
     ensures { result ≡ reading.sees terminals.is_product_op tokens.now }
 {
     matches!(tokens.ahead(), Some(Symbol::Star | Symbol::Slash))
 }
 
-fn sum_op(tokens: &mut Cursor<'_>) -> Result<BinOp, Failure>
+pub fn sum_op(tokens: &mut Cursor<'_>) -> Result<BinOp, Failure>
     ensures { Reads (reading.token terminals.sum_op tokens.old) result tokens.new }
 {
     match tokens.ahead() {
@@ -41,7 +41,7 @@ fn sum_op(tokens: &mut Cursor<'_>) -> Result<BinOp, Failure>
     }
 }
 
-fn product_op(tokens: &mut Cursor<'_>) -> Result<BinOp, Failure>
+pub fn product_op(tokens: &mut Cursor<'_>) -> Result<BinOp, Failure>
     ensures { Reads (reading.token terminals.product_op tokens.old) result tokens.new }
 {
     match tokens.ahead() {
@@ -268,7 +268,8 @@ pub fn subscripts(
 ) -> Result<Listed, Failure>
     requires few { d < 2 ^ 32 }
     requires room { 0 < brackets }
-    ensures { Reads (spec.subscripts (nat_lt 0 brackets) (spec.below brackets) (Some d) tokens.old) result tokens.new }
+    ensures reads { Reads (spec.subscripts (nat_lt 0 brackets) (spec.below brackets) (Some d) tokens.old) result tokens.new }
+    ensures depth { IfOk result (λ x. x.depth ≤ d + 1) }
 {
     Rules {
         alloc,

@@ -18,7 +18,7 @@ use std::alloc::Global;
 /// The greatest exponent.
 const EXPONENT: u64 = 2_147_483_647;
 
-fn is_pairing(tokens: &Cursor<'_>) -> bool
+pub fn is_pairing(tokens: &Cursor<'_>) -> bool
     ensures { result ≡ reading.sees terminals.is_pairing tokens.now }
 {
     matches!(
@@ -27,14 +27,14 @@ fn is_pairing(tokens: &Cursor<'_>) -> bool
     )
 }
 
-fn is_single(tokens: &Cursor<'_>) -> bool
+pub fn is_single(tokens: &Cursor<'_>) -> bool
     ensures { result ≡ reading.sees terminals.is_single tokens.now }
 {
     matches!(tokens.ahead(), Some(Symbol::Abs))
 }
 
 /// A function of two arguments.
-fn pairing(tokens: &mut Cursor<'_>) -> Result<Fun, Failure>
+pub fn pairing(tokens: &mut Cursor<'_>) -> Result<Fun, Failure>
     ensures { Reads (reading.token terminals.pairing tokens.old) result tokens.new }
 {
     match tokens.ahead() {
@@ -55,7 +55,7 @@ fn pairing(tokens: &mut Cursor<'_>) -> Result<Fun, Failure>
 }
 
 /// A function of one argument.
-fn single(tokens: &mut Cursor<'_>) -> Result<Fun, Failure>
+pub fn single(tokens: &mut Cursor<'_>) -> Result<Fun, Failure>
     ensures { Reads (reading.token terminals.single tokens.old) result tokens.new }
 {
     match tokens.ahead() {

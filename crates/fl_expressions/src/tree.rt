@@ -27,7 +27,7 @@ fn deepest(a: usize, b: usize) -> usize
 }
 
 /// The kind that the suffix of a number gives it.
-fn kind_of(suffix: Option<u8>) -> Kind
+pub fn kind_of(suffix: Option<u8>) -> Kind
     ensures { result ≡ trees.kind_of suffix }
 {
     if suffix == Some(8) {
