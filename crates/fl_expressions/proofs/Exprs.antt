@@ -13,13 +13,13 @@ use Rattle.parsing.specs.Grammar.{Grammar, ◌or◌, where_}
 use Rattle.fl_ast.specs.declared.kind.BinOp.TheVariants.{Add, Mul}
 use Rattle.fl_ast.specs.declared.kind.Fun.TheVariants as fun
 use Rattle.parsing.specs.declared.cursor.Word.{Word}
-use Rattle.fl_parser.specs.declared.tree.Measured.{Measured}
-use Rattle.fl_parser.specs.declared.tree.Listed.{Listed}
-use Rattle.fl_parser.specs.Terminals.{sum_op_by, product_op_by, pairing_by, is_pairing, single_by, is_single}
-use Rattle.fl_parser.specs.Trees.{literal, scalar, negation, binary, power, no_exprs, one_more, element, call_of, may_stand_left}
-use Rattle.fl_parser.specs.Wide.{More}
-use Rattle.fl_parser.specs.ExprGrammar as g
-use Rattle.fl_parser.specs.ExprReading as p
+use Rattle.fl_expressions.specs.declared.tree.Measured.{Measured}
+use Rattle.fl_expressions.specs.declared.tree.Listed.{Listed}
+use Rattle.fl_expressions.specs.Terminals.{sum_op_by, product_op_by, pairing_by, is_pairing, single_by, is_single}
+use Rattle.fl_expressions.specs.Trees.{literal, scalar, negation, binary, power, no_exprs, one_more, element, call_of, may_stand_left}
+use Rattle.fl_expressions.specs.Wide.{More}
+use Rattle.fl_expressions.specs.ExprGrammar as g
+use Rattle.fl_expressions.specs.ExprReading as p
 use Rattle.parsing.proofs.Outcomes.{never, which, differ, Shrinks, shrinks_pure, shrinks_seq, Bites, bites_seq}
 use Rattle.parsing.proofs.Exact.{Exact, Room, always_room, room_of, both_rooms, frees_less, Begins, Meets, pure_exact, seq, either_within, shrinks_token}
 use Rattle.parsing.proofs.Rules.{either, begins_seq, begins_or, begins_where, meets_never, narrow, anywhere, mapped, loop_exact, many_meets, shrinks_loop, meets_or, gives_meets}

@@ -3,7 +3,7 @@ use Rattle.std.proofs.Common.{◌≡◌, ℕ, zero, suc, ◌-◌, ◌<◌, nat_l
 use Rattle.std.proofs.lemmas.Bool.Decides.{nat_tests}
 use Rattle.parsing.specs.Limit.{Limit}
 use Rattle.parsing.specs.Reading.{Lexemes}
-use Rattle.fl_parser.specs.ExprReading as spec
+use Rattle.fl_expressions.specs.ExprReading as spec
 
 some : (b : ℕ) → nat_lt 0 (suc b) ≡ true
 some b = grind (arith, nat_tests)

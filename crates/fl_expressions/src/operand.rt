@@ -3,11 +3,11 @@
 ghost use Rattle.std.specs.Prelude.{◌≡◌, ◌-◌, ◌+◌, ◌<◌, ◌≤◌, ◌^◌, nat_lt, IsTrue, IfOk, Some};
 ghost use Rattle.parsing.specs.Code.{Reads};
 ghost use Rattle.parsing.specs.Reading as reading;
-ghost use Rattle.fl_parser.specs.ExprReading as spec;
-ghost use Rattle.fl_parser.specs.Terminals as terminals;
-ghost use Rattle.fl_parser.specs.Nests.{Nests};
+ghost use Rattle.fl_expressions.specs.ExprReading as spec;
+ghost use Rattle.fl_expressions.specs.Terminals as terminals;
+ghost use Rattle.fl_expressions.specs.Nests.{Nests};
 
-use crate::expr::Rules;
+use crate::expression::Rules;
 use crate::tree::{
     Listed, Measured, call, element, literal, no_exprs, one_more, power, scalar, two_exprs,
 };

@@ -2,11 +2,11 @@ use Rattle.std.proofs.Common.{rules, arith, nat_lt, Some}
 use Rattle.std.proofs.lemmas.Grind.{common_steps}
 use Rattle.parsing.specs.declared.fault.Cause.TheVariants.{Deep}
 use Rattle.parsing.specs.Reading.{turns, grouped}
-use Rattle.fl_parser.specs.Terminals.{sum_op, is_sum_op}
-use Rattle.fl_parser.specs.Trees.{binary, may_stand_left}
-use Rattle.fl_parser.specs.ExprReading as spec
-use Rattle.fl_parser.proofs.Turns.{one_more}
-use Rattle.fl_parser.proofs.expr.Rules.terms_from.Goals as goal
+use Rattle.fl_expressions.specs.Terminals.{sum_op, is_sum_op}
+use Rattle.fl_expressions.specs.Trees.{binary, may_stand_left}
+use Rattle.fl_expressions.specs.ExprReading as spec
+use Rattle.fl_expressions.proofs.Turns.{one_more}
+use Rattle.fl_expressions.proofs.expression.Rules.terms_from.Goals as goal
 
 pub loop-turn-init : goal.loop-turn-init
 unfolding spec.terms_from

@@ -1,10 +1,10 @@
 use Rattle.std.proofs.Common.{◌≡◌, ◌-◌, ◌+◌, ◌<◌, ◌≤◌, nat_lt, Some}
 use Rattle.parsing.specs.declared.fault.Cause.TheVariants.{Deep}
 use Rattle.parsing.specs.Reading.{turns, grouped}
-use Rattle.fl_parser.specs.Terminals.{sum_op, is_sum_op}
-use Rattle.fl_parser.specs.Trees.{binary, may_stand_left}
-use Rattle.fl_parser.specs.ExprReading as spec
-use Rattle.fl_parser.proofs.expr.Rules.terms_from.Given as goal
+use Rattle.fl_expressions.specs.Terminals.{sum_op, is_sum_op}
+use Rattle.fl_expressions.specs.Trees.{binary, may_stand_left}
+use Rattle.fl_expressions.specs.ExprReading as spec
+use Rattle.fl_expressions.proofs.expression.Rules.terms_from.Given as goal
 
 abbrev pub invariant-loop-turn : goal.invariant-loop-turn
 invariant-loop-turn g l = record {

@@ -1,6 +1,6 @@
 use Rattle.std.proofs.Common.{Some, rules}
-use Rattle.fl_parser.proofs.Levels.{level_of, below_of}
-use Rattle.fl_parser.proofs.expr.+expr.Goals as goal
+use Rattle.fl_expressions.proofs.Levels.{level_of, below_of}
+use Rattle.fl_expressions.proofs.expression.+expr.Goals as goal
 
 pub returns-clause-reads : goal.returns-clause-reads
 returns-clause-reads t c = rw level_of c.sum.ensures.reads

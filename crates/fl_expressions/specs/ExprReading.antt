@@ -6,10 +6,10 @@ use Rattle.parsing.specs.Limit.{Limit, allows, less}
 use Rattle.parsing.specs.Terminal.{is, on, marked, names, name, number}
 use Rattle.parsing.specs.Reading.{Parser, ◌>>=◌, pure, token, refuse, choose, within, loop, left_grouped}
 use Rattle.parsing.specs.declared.cursor.Word.{Word}
-use Rattle.fl_parser.specs.declared.tree.Measured.{Measured}
-use Rattle.fl_parser.specs.declared.tree.Listed.{Listed}
-use Rattle.fl_parser.specs.Terminals.{sum_op, product_op, is_sum_op, is_product_op, pairing, is_pairing, single, is_single, exponent}
-use Rattle.fl_parser.specs.Trees.{literal as literal_of, scalar as scalar_of, negation, binary, power, no_exprs, one_more, element, call_of, may_stand_left}
+use Rattle.fl_expressions.specs.declared.tree.Measured.{Measured}
+use Rattle.fl_expressions.specs.declared.tree.Listed.{Listed}
+use Rattle.fl_expressions.specs.Terminals.{sum_op, product_op, is_sum_op, is_product_op, pairing, is_pairing, single, is_single, exponent}
+use Rattle.fl_expressions.specs.Trees.{literal as literal_of, scalar as scalar_of, negation, binary, power, no_exprs, one_more, element, call_of, may_stand_left}
 
 unfoldable pub power_of : Measured → Parser Measured
 power_of e = do

@@ -2,11 +2,11 @@ use Rattle.std.proofs.Common.{rules, arith, nat_lt, Some}
 use Rattle.std.proofs.lemmas.Grind.{common_steps}
 use Rattle.parsing.specs.declared.fault.Cause.TheVariants.{Deep}
 use Rattle.parsing.specs.Reading.{turns, grouped}
-use Rattle.fl_parser.specs.Terminals.{product_op, is_product_op}
-use Rattle.fl_parser.specs.Trees.{binary, may_stand_left}
-use Rattle.fl_parser.specs.ExprReading as spec
-use Rattle.fl_parser.proofs.Turns.{one_more}
-use Rattle.fl_parser.proofs.expr.Rules.factors_from.Goals as goal
+use Rattle.fl_expressions.specs.Terminals.{product_op, is_product_op}
+use Rattle.fl_expressions.specs.Trees.{binary, may_stand_left}
+use Rattle.fl_expressions.specs.ExprReading as spec
+use Rattle.fl_expressions.proofs.Turns.{one_more}
+use Rattle.fl_expressions.proofs.expression.Rules.factors_from.Goals as goal
 
 pub loop-turn-init : goal.loop-turn-init
 unfolding spec.factors_from

@@ -5,10 +5,10 @@ use Rattle.parsing.specs.Limit.{Limit, allows, less}
 use Rattle.parsing.specs.Terminal.{marked, name, number}
 use Rattle.parsing.specs.Grammar.{Grammar, ◌>>=◌, gives, one, ◌or◌, where_, many, left_grouped}
 use Rattle.parsing.specs.declared.cursor.Word.{Word}
-use Rattle.fl_parser.specs.declared.tree.Measured.{Measured}
-use Rattle.fl_parser.specs.declared.tree.Listed.{Listed}
-use Rattle.fl_parser.specs.Terminals.{sum_op, product_op, pairing, single, exponent}
-use Rattle.fl_parser.specs.Trees.{literal as literal_of, scalar as scalar_of, negation, binary, power, no_exprs, one_more, element, call_of, may_stand_left}
+use Rattle.fl_expressions.specs.declared.tree.Measured.{Measured}
+use Rattle.fl_expressions.specs.declared.tree.Listed.{Listed}
+use Rattle.fl_expressions.specs.Terminals.{sum_op, product_op, pairing, single, exponent}
+use Rattle.fl_expressions.specs.Trees.{literal as literal_of, scalar as scalar_of, negation, binary, power, no_exprs, one_more, element, call_of, may_stand_left}
 
 -- "**" number
 unfoldable pub power_of : Measured → Grammar Measured

@@ -5,8 +5,8 @@ use denote.Ref.{MutBor}
 use Rattle.parsing.specs.declared.cursor.Cursor.{Cursor}
 use Rattle.parsing.specs.declared.fault.Failure.{Failure}
 use Rattle.parsing.specs.Code.{Reads}
-use Rattle.fl_parser.specs.declared.tree.Measured.{Measured}
-use Rattle.fl_parser.specs.ExprReading.{below}
+use Rattle.fl_expressions.specs.declared.tree.Measured.{Measured}
+use Rattle.fl_expressions.specs.ExprReading.{below}
 
 pub record Nests (b : ℕ) (pre : Global → MutBor Cursor → ℕ → ℕ → Type 0)
     (post : Global → MutBor Cursor → ℕ → ℕ → Result Measured Failure → MutBor Cursor → Type 0) : Type 0 where

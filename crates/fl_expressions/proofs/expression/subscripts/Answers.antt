@@ -1,6 +1,6 @@
 use Rattle.std.proofs.Common.{Some, rules}
-use Rattle.fl_parser.proofs.Levels.{below_of}
-use Rattle.fl_parser.proofs.expr.subscripts.Goals as goal
+use Rattle.fl_expressions.proofs.Levels.{below_of}
+use Rattle.fl_expressions.proofs.expression.subscripts.Goals as goal
 
 pub subscripts-requires-clause-nests : goal.subscripts-requires-clause-nests
 subscripts-requires-clause-nests c = record {

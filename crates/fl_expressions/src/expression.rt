@@ -3,10 +3,10 @@
 ghost use Rattle.std.specs.Prelude.{◌≡◌, ◌-◌, ◌+◌, ◌<◌, ◌≤◌, ◌^◌, nat_lt, IfOk, Some};
 ghost use Rattle.parsing.specs.Code.{Reads};
 ghost use Rattle.parsing.specs.Reading as reading;
-ghost use Rattle.fl_parser.specs.ExprReading as spec;
-ghost use Rattle.fl_parser.specs.Terminals as terminals;
-ghost use Rattle.fl_parser.specs.Trees as trees;
-ghost use Rattle.fl_parser.specs.Nests.{Nests};
+ghost use Rattle.fl_expressions.specs.ExprReading as spec;
+ghost use Rattle.fl_expressions.specs.Terminals as terminals;
+ghost use Rattle.fl_expressions.specs.Trees as trees;
+ghost use Rattle.fl_expressions.specs.Nests.{Nests};
 
 use crate::tree::{Listed, Measured, binary, negation};
 use fl_ast::BinOp;

@@ -4,9 +4,9 @@ use Rattle.parsing.specs.declared.symbol.Symbol.TheVariants as s
 use Rattle.parsing.specs.declared.fault.Cause.TheVariants.{Expected}
 use Rattle.parsing.specs.Terminal.{is}
 use Rattle.parsing.specs.Reading.{turns}
-use Rattle.fl_parser.specs.ExprReading as spec
-use Rattle.fl_parser.proofs.Turns.{one_more}
-use Rattle.fl_parser.proofs.expr.Rules.more_exprs.Goals as goal
+use Rattle.fl_expressions.specs.ExprReading as spec
+use Rattle.fl_expressions.proofs.Turns.{one_more}
+use Rattle.fl_expressions.proofs.expression.Rules.more_exprs.Goals as goal
 
 pub loop-turn-init : goal.loop-turn-init
 unfolding spec.more_exprs

@@ -1,5 +1,5 @@
 ghost use Rattle.std.specs.Prelude.{◌≡◌, ◌+◌, ◌<◌, ◌^◌, IfOk, max};
-ghost use Rattle.fl_parser.specs.Trees as trees;
+ghost use Rattle.fl_expressions.specs.Trees as trees;
 
 use fl_ast::{BinOp, Expr, Fun, Kind, Place};
 use fl_base::{Boxed, Items, Memory};

@@ -3,8 +3,8 @@ use Rattle.parsing.specs.declared.symbol.Symbol.TheVariants as s
 use Rattle.parsing.specs.declared.fault.Cause.TheVariants.{Expected}
 use Rattle.parsing.specs.Terminal.{is}
 use Rattle.parsing.specs.Reading.{turns}
-use Rattle.fl_parser.specs.ExprReading as spec
-use Rattle.fl_parser.proofs.expr.Rules.more_exprs.Given as goal
+use Rattle.fl_expressions.specs.ExprReading as spec
+use Rattle.fl_expressions.proofs.expression.Rules.more_exprs.Given as goal
 
 abbrev pub invariant-loop-turn : goal.invariant-loop-turn
 invariant-loop-turn g l = record {
