@@ -1,6 +1,7 @@
 -- Expressions are read exactly.
-use Rattle.std.proofs.Common.{◌≡◌, ℕ, zero, suc, Bool, true, false, ◌&&◌, cond, nat_lt, [], ◌∷◌, refl, sym, ◌∙◌, ◌⊎◌, inl, inr, arith}
+use Rattle.std.proofs.Common.{◌≡◌, ℕ, zero, suc, Bool, true, false, ◌&&◌, cond, nat_lt, [], ◌∷◌, ◌++◌, refl, sym, ap, ◌∙◌, append_assoc, ◌⊎◌, inl, inr, arith}
 use Rattle.std.proofs.lemmas.Bool.Decides.{nat_tests}
+use Rattle.tokens.specs.Lexeme.{Lexeme}
 use Rattle.parsing.specs.declared.symbol.Symbol.{Symbol}
 use Rattle.parsing.specs.declared.symbol.Symbol.TheVariants as s
 use Rattle.parsing.specs.declared.fault.Cause.TheVariants.{Expected, Deep}
@@ -8,8 +9,8 @@ use Rattle.parsing.specs.Freed.{Freed, Frees, frees}
 use Rattle.parsing.specs.Freed.Freed.{Nothing}
 use Rattle.parsing.specs.Limit.{Limit, allows, less as fewer}
 use Rattle.parsing.specs.Terminal.{same, on, is, reads, names, numbers}
-use Rattle.parsing.specs.Reading.{Parser}
-use Rattle.parsing.specs.Grammar.{Grammar, ◌or◌, where_}
+use Rattle.parsing.specs.Reading.{Parser, sees}
+use Rattle.parsing.specs.Grammar.{Grammar, ◌or◌, where_, ◌>>=◌ as ◌⨟◌}
 use Rattle.fl_ast.specs.declared.kind.BinOp.TheVariants.{Add, Mul}
 use Rattle.fl_ast.specs.declared.kind.Fun.TheVariants as fun
 use Rattle.parsing.specs.declared.cursor.Word.{Word}
@@ -20,6 +21,7 @@ use Rattle.fl_expressions.specs.Trees.{literal, scalar, negation, binary, power,
 use Rattle.fl_expressions.specs.Wide.{More}
 use Rattle.fl_expressions.specs.ExprGrammar as g
 use Rattle.fl_expressions.specs.ExprReading as p
+use Rattle.fl_expressions.proofs.Opened.{NamedGrammar, RestGrammar, StartedGrammar, UnopenedGrammar, RestAt, UnopenedAt}
 use Rattle.parsing.proofs.Outcomes.{never, which, differ, Shrinks, shrinks_pure, shrinks_seq, Bites, bites_seq}
 use Rattle.parsing.proofs.Exact.{Exact, Room, always_room, room_of, both_rooms, frees_less, Begins, Meets, pure_exact, seq, either_within, shrinks_token}
 use Rattle.parsing.proofs.Rules.{either, begins_seq, begins_or, begins_where, meets_never, narrow, anywhere, mapped, loop_exact, many_meets, shrinks_loop, meets_or, gives_meets}
@@ -41,6 +43,10 @@ binds = among (s.Open ∷ s.Power ∷ s.Star ∷ s.Slash ∷ s.Plus ∷ s.Minus 
 -- with a list of expressions
 abbrev pub lists : Symbol → Bool
 lists = among (s.Comma ∷ s.Open ∷ s.Power ∷ s.Star ∷ s.Slash ∷ s.Plus ∷ s.Minus ∷ [])
+
+-- what begins an expression without a bracket at its head
+abbrev pub unopened : Symbol → Bool
+unopened a = cond (same s.Minus a) true (cond (same s.Plus a) true (cond (reads pairing_by a) true (cond (reads single_by a) true (cond (names a) true (numbers a)))))
 
 -- ---- powers
 
@@ -66,6 +72,11 @@ raised_meets : (d : Limit) (e : Measured) → Meets (g.raised d e) (is s.Open) (
 unfolding g.raised
 raised_meets d e = meets_or _ _ (is s.Open) (on raises) (meets (same s.Power) (same s.Open) (on raises) _ (begins_where _ _ _ (power_of_begins e)) refl refl)
     (gives_meets e (is s.Open) (on raises) (less (same s.Open) raises refl refl))
+
+-- one after the other, both perhaps empty
+pub meets_seq : {A B : Type 0} (N : Grammar A) (M : A → Grammar B) (before between after : Lexeme → Bool) → Meets N before between → ((x : A) → Meets (M x) between after) → Meets (N ⨟ M) before after
+meets_seq N M before between after a b z us rest (x, vs, ws, n, m, e) h =
+    ap (sees before) (ap (λ v. v ++ rest) e ∙ append_assoc vs ws rest) ∙ a x vs (ws ++ rest) n (b x z ws rest m h)
 
 first : (a b : Bool) → (a && b) ≡ true → a ≡ true
 first true b e = refl
@@ -251,16 +262,13 @@ module _ (l : Freed) (open_ open2 : Bool) (room : Room l Deep open_ open2) (ig :
   single_begins : (d : Limit) → Begins (SingleGrammar d) (on singles)
   single_begins d = begins_or _ _ (on singles) (begins_where _ _ _ (begins_in (reads single_by) singles _ (call_of_one_begins d) refl refl)) (begins_in plain singles _ (plain_begins d) refl refl)
 
-  abbrev NamedGrammar : Limit → Grammar Measured
-  NamedGrammar d = where_ (open_ && allows d 1) (g.call_of_two open_ ig d) or SingleGrammar d
-
   abbrev nameds : Symbol → Bool
   nameds a = cond (reads pairing_by a) true (singles a)
 
-  named_begins : (d : Limit) → Begins (NamedGrammar d) (on nameds)
+  named_begins : (d : Limit) → Begins (NamedGrammar open_ ig d) (on nameds)
   named_begins d = begins_or _ _ (on nameds) (begins_where _ _ _ (begins_in (reads pairing_by) nameds _ (call_of_two_begins d) refl refl)) (begins_in singles nameds _ (single_begins d) refl refl)
 
-  named_exact : (d d2 : Limit) → Frees l Deep d d2 → Exact l (NamedGrammar d) (is s.Open) (p.named open_ ip d) (p.named open2 ip2 d2)
+  named_exact : (d d2 : Limit) → Frees l Deep d d2 → Exact l (NamedGrammar open_ ig d) (is s.Open) (p.named open_ ip d) (p.named open2 ip2 d2)
   unfolding p.named
   named_exact d d2 F =
       either_within (open_ && allows d 1) (open2 && allows d2 1) Deep (hold_room d d2 F)
@@ -367,7 +375,37 @@ module _ (l : Freed) (open_ open2 : Bool) (room : Room l Deep open_ open2) (ig :
       (either (positive_exact d d2 F) (unsigned_exact d d2 F) (plus_begins d) (meets operand (same s.Plus) (on binds) _ (unsigned_begins d) refl refl))
       (negated_begins d) (meets positive (same s.Minus) (on binds) _ (positive_begins d) refl refl)
 
-abbrev nothing_freed : (d : Limit) → Frees Nothing Deep d d
+  -- ---- behind a first operand, and without a bracket at its head
+
+  pub rest_exact : (d d2 : Limit) → Frees l Deep d d2 → (e : Measured) → Exact l (RestGrammar open_ ig d e) (on binds) (p.rest_of open_ ip d e) (p.rest_of open2 ip2 d2 e)
+  unfolding p.rest_of
+  rest_exact d d2 F e = seq (seq (narrow (raised_exact l d d2 F e) (less (same s.Power) raises refl refl)) (factors_exact d d2 F) (factors_meet d d2 F)) (terms_exact d d2 F) (terms_meet d d2 F)
+
+  rest_meets : (d d2 : Limit) → Frees l Deep d d2 → (e : Measured) → Meets (RestGrammar open_ ig d e) (is s.Open) (on binds)
+  rest_meets d d2 F e = meets_seq (g.raised d e ⨟ g.factors_from open_ ig d) (g.terms_from open_ ig d) (is s.Open) (on multiplies) (on binds)
+      (meets_seq (g.raised d e) (g.factors_from open_ ig d) (is s.Open) (on raises) (on multiplies) (raised_meets d e) (factors_meet d d2 F)) (terms_meet d d2 F)
+
+  started_exact : (d d2 : Limit) → Frees l Deep d d2 → Exact l (StartedGrammar open_ ig d) (on binds) (p.started open_ ip d) (p.started open2 ip2 d2)
+  unfolding p.started
+  started_exact d d2 F = seq (named_exact d d2 F) (rest_exact d d2 F) (rest_meets d d2 F)
+
+  abbrev starts : Symbol → Bool
+  starts a = cond (same s.Plus a) true (nameds a)
+
+  starts_begin : (d : Limit) → Begins (g.plain open_ ig d or StartedGrammar open_ ig d) (on starts)
+  starts_begin d = begins_or _ _ (on starts) (begins_in (same s.Plus) starts _ (plus_begins d) refl refl) (begins_in nameds starts _ (begins_seq _ (named_begins d)) refl refl)
+
+  pub unopened_exact : (d d2 : Limit) → Frees l Deep d d2 → Exact l (UnopenedGrammar open_ ig d) (on binds) (p.unopened open_ ip d) (p.unopened open2 ip2 d2)
+  unfolding p.unopened
+  unopened_exact d d2 F =
+      either_within (allows d 1) (allows d2 1) Deep (room_of F 1) (λ _. negated_exact d d2 F) (λ _ _. negated_bites d d2 F)
+      (either (positive_exact d d2 F) (started_exact d d2 F) (plus_begins d) (meets nameds (same s.Plus) (on binds) _ (begins_seq _ (named_begins d)) refl refl))
+      (negated_begins d) (meets starts (same s.Minus) (on binds) _ (starts_begin d) refl refl)
+
+  pub unopened_begins : (d : Limit) → Begins (UnopenedGrammar open_ ig d) (on unopened)
+  unopened_begins d = begins_or _ _ (on unopened) (begins_where _ _ _ (begins_in (same s.Minus) unopened _ (negated_begins d) refl refl)) (begins_in starts unopened _ (starts_begin d) refl refl)
+
+abbrev pub nothing_freed : (d : Limit) → Frees Nothing Deep d d
 nothing_freed d = record { stays = λ _. refl; goes = λ h. differ true refl (sym h) }
 
 expr_same : (b : ℕ) (d d2 : Limit) → Frees Nothing Deep d d2 → Exact Nothing (g.expr b d) (on binds) (p.expr b d) (p.expr b d2)
@@ -444,3 +482,12 @@ module _ (l : Freed) (b b2 : ℕ) (R : More l b b2) (d d2 : Limit) (F : Frees l 
 
   pub list_bites : nat_lt 0 b2 ≡ true → Bites (p.subscripts (nat_lt 0 b2) (p.below b2) d2) (is s.Open)
   list_bites so = subscripts_bites l (nat_lt 0 b) (nat_lt 0 b2) brackets_room (g.below b) (p.below b) (p.below b2) (below_exact l b b2 R) (below_shrinks b2) so d2
+
+  pub rest_at_exact : (e : Measured) → Exact l (RestAt b d e) (on binds) (p.rest_of (nat_lt 0 b) (p.below b) d e) (p.rest_of (nat_lt 0 b2) (p.below b2) d2 e)
+  rest_at_exact e = rest_exact l (nat_lt 0 b) (nat_lt 0 b2) brackets_room (g.below b) (p.below b) (p.below b2) (below_exact l b b2 R) (below_shrinks b2) d d2 F e
+
+  pub unopened_at_exact : Exact l (UnopenedAt b d) (on binds) (p.unopened (nat_lt 0 b) (p.below b) d) (p.unopened (nat_lt 0 b2) (p.below b2) d2)
+  unopened_at_exact = unopened_exact l (nat_lt 0 b) (nat_lt 0 b2) brackets_room (g.below b) (p.below b) (p.below b2) (below_exact l b b2 R) (below_shrinks b2) d d2 F
+
+  pub unopened_at_begins : Begins (UnopenedAt b d) (on unopened)
+  unopened_at_begins = unopened_begins l (nat_lt 0 b) (nat_lt 0 b2) brackets_room (g.below b) (p.below b) (p.below b2) (below_exact l b b2 R) (below_shrinks b2) d

@@ -134,6 +134,17 @@ module _ (may_open : Bool) (inner : Limit → Parser Measured) where
   unfoldable pub sum : Limit → Parser Measured
   sum d = choose (is s.Minus) (within (allows d 1) Deep (negated d)) (choose (is s.Plus) (plain d) (unsigned d))
 
+  -- what goes on behind a first operand
+  unfoldable pub rest_of : Limit → Measured → Parser Measured
+  rest_of d e = raised d e >>= factors_from d >>= terms_from d
+
+  unfoldable pub started : Limit → Parser Measured
+  started d = named d >>= rest_of d
+
+  -- an expression that begins with no bracket
+  unfoldable pub unopened : Limit → Parser Measured
+  unopened d = choose (is s.Minus) (within (allows d 1) Deep (negated d)) (choose (is s.Plus) (plain d) (started d))
+
 -- with so many brackets to open
 unfoldable pub expr : ℕ → Limit → Parser Measured
 expr zero = sum false (λ d. refuse Deep)

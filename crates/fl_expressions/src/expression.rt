@@ -207,6 +207,56 @@ impl<F: Fn(Global, &mut Cursor<'_>, usize, usize) -> Result<Measured, Failure>> 
         }
         self.unsigned(tokens, d)
     }
+
+    /// What goes on behind a first operand.
+    #[tactic(auto, unfolding(crate::specs::ExprReading::rest_of))]
+    fn rest_of(
+        &self,
+        tokens: &mut Cursor<'_>,
+        d: usize,
+        first: Measured,
+    ) -> Result<Measured, Failure>
+        requires nests { Nests self.now.brackets (F.pre self.now.expr) (F.post self.now.expr) }
+        requires few { d < 2 ^ 32 }
+        requires shallow { first.depth ≤ d + 1 }
+        requires real { 0 < first.depth }
+        ensures reads { Reads (spec.rest_of (nat_lt 0 self.now.brackets) (spec.below self.now.brackets) (Some d) first tokens.old) result tokens.new }
+        ensures depth { IfOk result (λ x. (0 < x.depth) × (x.depth ≤ d + 1)) }
+    {
+        let factor = self.raised(tokens, d, first)?;
+        let term = self.factors_from(tokens, d, factor)?;
+        self.terms_from(tokens, d, term)
+    }
+
+    #[tactic(auto, unfolding(crate::specs::ExprReading::started))]
+    fn started(&self, tokens: &mut Cursor<'_>, d: usize) -> Result<Measured, Failure>
+        requires nests { Nests self.now.brackets (F.pre self.now.expr) (F.post self.now.expr) }
+        requires few { d < 2 ^ 32 }
+        ensures reads { Reads (spec.started (nat_lt 0 self.now.brackets) (spec.below self.now.brackets) (Some d) tokens.old) result tokens.new }
+        ensures depth { IfOk result (λ x. (0 < x.depth) × (x.depth ≤ d + 1)) }
+    {
+        let first = self.named(tokens, d)?;
+        self.rest_of(tokens, d, first)
+    }
+
+    #[tactic(auto, unfolding(crate::specs::ExprReading::unopened))]
+    fn unopened(&self, tokens: &mut Cursor<'_>, d: usize) -> Result<Measured, Failure>
+        requires nests { Nests self.now.brackets (F.pre self.now.expr) (F.post self.now.expr) }
+        requires few { d < 2 ^ 32 }
+        ensures reads { Reads (spec.unopened (nat_lt 0 self.now.brackets) (spec.below self.now.brackets) (Some d) tokens.old) result tokens.new }
+        ensures depth { IfOk result (λ x. (0 < x.depth) × (x.depth ≤ d + 1)) }
+    {
+        if tokens.sees(Symbol::Minus) {
+            if d == 0 {
+                return Err(tokens.refuse(Cause::Deep));
+            }
+            return self.negated(tokens, d);
+        }
+        if tokens.sees(Symbol::Plus) {
+            return self.plain(tokens, d);
+        }
+        self.started(tokens, d)
+    }
 }
 
 /// A list of expressions in brackets, with so many brackets to open and so many levels beneath each root.
@@ -226,6 +276,47 @@ pub fn subscripts(
         expr,
     }
     .subscripts(tokens, d)
+}
+
+/// What goes on behind the first operand of an expression, as `subscripts` and `expr` read on.
+pub fn rest_of(
+    alloc: Global,
+    tokens: &mut Cursor<'_>,
+    brackets: usize,
+    d: usize,
+    first: Measured,
+) -> Result<Measured, Failure>
+    requires few { d < 2 ^ 32 }
+    requires shallow { first.depth ≤ d + 1 }
+    requires real { 0 < first.depth }
+    ensures reads { Reads (spec.rest_of (nat_lt 0 brackets) (spec.below brackets) (Some d) first tokens.old) result tokens.new }
+    ensures depth { IfOk result (λ x. (0 < x.depth) × (x.depth ≤ d + 1)) }
+{
+    Rules {
+        alloc,
+        brackets,
+        expr,
+    }
+    .rest_of(tokens, d, first)
+}
+
+/// An expression that begins with no bracket. One that does may turn out to be a condition.
+pub fn unopened(
+    alloc: Global,
+    tokens: &mut Cursor<'_>,
+    brackets: usize,
+    d: usize,
+) -> Result<Measured, Failure>
+    requires { d < 2 ^ 32 }
+    ensures reads { Reads (spec.unopened (nat_lt 0 brackets) (spec.below brackets) (Some d) tokens.old) result tokens.new }
+    ensures depth { IfOk result (λ x. (0 < x.depth) × (x.depth ≤ d + 1)) }
+{
+    Rules {
+        alloc,
+        brackets,
+        expr,
+    }
+    .unopened(tokens, d)
 }
 
 /// An expression with so many brackets to open and so many levels beneath its root.

@@ -5,5 +5,5 @@ mod expression;
 mod operand;
 mod tree;
 
-pub use expression::{expr, subscripts};
+pub use expression::{expr, rest_of, subscripts, unopened};
 pub use tree::{Listed, Measured};

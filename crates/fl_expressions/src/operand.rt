@@ -289,7 +289,7 @@ impl<F: Fn(Global, &mut Cursor<'_>, usize, usize) -> Result<Measured, Failure>> 
     }
 
     #[tactic(auto, unfolding(crate::specs::ExprReading::named))]
-    fn named(&self, tokens: &mut Cursor<'_>, d: usize) -> Result<Measured, Failure>
+    pub fn named(&self, tokens: &mut Cursor<'_>, d: usize) -> Result<Measured, Failure>
         requires nests { Nests self.now.brackets (F.pre self.now.expr) (F.post self.now.expr) }
         requires few { d < 2 ^ 32 }
         ensures reads { Reads (spec.named (nat_lt 0 self.now.brackets) (spec.below self.now.brackets) (Some d) tokens.old) result tokens.new }
@@ -330,7 +330,12 @@ impl<F: Fn(Global, &mut Cursor<'_>, usize, usize) -> Result<Measured, Failure>> 
     }
 
     #[tactic(auto, unfolding(crate::specs::ExprReading::raised))]
-    fn raised(&self, tokens: &mut Cursor<'_>, d: usize, e: Measured) -> Result<Measured, Failure>
+    pub fn raised(
+        &self,
+        tokens: &mut Cursor<'_>,
+        d: usize,
+        e: Measured,
+    ) -> Result<Measured, Failure>
         requires few { d < 2 ^ 32 }
         requires some { 0 < e.depth }
         requires shallow { e.depth ≤ d + 1 }
