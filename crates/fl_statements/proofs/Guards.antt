@@ -1,19 +1,20 @@
 -- Limits that guard each other, and lists whose steps are exact as turns.
-use Rattle.std.proofs.Common.{◌≡◌, ℕ, zero, suc, ◌+◌, ◌<◌, ◌≤◌, Bool, true, false, not, ◌||◌, cond, [], ◌∷◌, ◌++◌, length, Ok, Err, ◌⊎◌, inl, inr, refl, sym, ap, subst, ◌∙◌, append_assoc, length-append, arith}
+use Rattle.std.proofs.Common.{◌≡◌, ℕ, zero, suc, ◌+◌, ◌<◌, ◌≤◌, Bool, true, false, ◌||◌, cond, [], ◌∷◌, ◌++◌, length, Ok, Err, ◌⊎◌, inl, inr, refl, sym, ap, subst, ◌∙◌, length-append, arith}
 use Rattle.std.proofs.lemmas.List.{append_cancel_right}
 use Rattle.tokens.specs.Lexeme.{Lexeme}
 use Rattle.parsing.specs.declared.fault.Cause.{Cause}
 use Rattle.parsing.specs.declared.symbol.Symbol.{Symbol}
 use Rattle.parsing.specs.Symbol.{symbol_of}
-use Rattle.parsing.specs.Terminal.{on}
+use Rattle.parsing.specs.Terminal.{on, is, same, marked}
 use Rattle.parsing.specs.declared.fault.Cause.TheVariants.{Expected, Deep, Many, Construct}
 use Rattle.parsing.specs.declared.fault.Fault.{Fault}
 use Rattle.parsing.specs.Freed.{Freed, frees}
 use Rattle.parsing.specs.Freed.Freed.{Nothing, Counts, All, Repeats}
-use Rattle.parsing.specs.Reading.{◌>>=◌ as ◌▷◌, Lexemes, Outcome, Parser, and_then, sees, fault, choose, within, turns, loop, pure}
+use Rattle.parsing.specs.Reading.{◌>>=◌ as ◌▷◌, Lexemes, Outcome, Parser, and_then, sees, fault, choose, within, token, turns, loop, pure}
 use Rattle.parsing.specs.Grammar.{◌>>=◌ as ◌⨟◌, Grammar, gives, ◌or◌, where_, times, many}
 use Rattle.parsing.proofs.Outcomes.{first, append_split, which, differ, err_is, choose_true, choose_false, Past, Within, Shrinks, Bites}
 use Rattle.parsing.proofs.Exact.{Exact, Room, Begins, Meets, Steady, Stuck, pure_exact, either_within}
+use Rattle.parsing.proofs.OnSymbols.{bites_mark}
 use Rattle.parsing.proofs.Rules.{anywhere, restate, not_empty}
 
 -- ---- limits
@@ -177,22 +178,25 @@ module _ {A : Type 0} (l : Freed) (test after : Lexeme → Bool) (step : A → G
 -- ---- a turn is a choice of statements
 
 -- What stands behind a statement stands behind each of those that may begin so.
-pub turn_of : {A : Type 0} (t1 t2 t3 : Symbol → Bool) (r m w : Bool) (q q2 q3 : Parser A) (k : A → Parser A) (e : Parser A) (ts : Lexemes) →
-    choose (on (λ a. t1 a || (t2 a || t3 a))) (choose (on t1) (within r Many q) (choose (on t2) (within m Deep (within r Many q2)) (within w Many q3)) ▷ k) e ts
-    ≡ choose (on t1) (within r Many (q ▷ k)) (choose (on t2) (within m Deep (within r Many (q2 ▷ k))) (choose (on t3) (within w Many (q3 ▷ k)) e)) ts
-turn_of t1 t2 t3 r m w q q2 q3 k e [] = refl
-turn_of {A} t1 t2 t3 r m w q q2 q3 k e (t ∷ ts) = by (t1 (symbol_of t)) (t2 (symbol_of t)) (t3 (symbol_of t)) r m w
+pub turn_of : {A : Type 0} (t1 t2 t3 t4 : Symbol → Bool) (r m w : Bool) (q q2 q3 q4 : Parser A) (k : A → Parser A) (e : Parser A) (ts : Lexemes) →
+    choose (on (λ a. t1 a || (t2 a || (t3 a || t4 a)))) (choose (on t1) (within r Many q) (choose (on t2) (within m Deep (within r Many q2)) (choose (on t3) (within m Deep (within r Many q3)) (within w Many q4))) ▷ k) e ts
+    ≡ choose (on t1) (within r Many (q ▷ k)) (choose (on t2) (within m Deep (within r Many (q2 ▷ k))) (choose (on t3) (within m Deep (within r Many (q3 ▷ k))) (choose (on t4) (within w Many (q4 ▷ k)) e))) ts
+turn_of t1 t2 t3 t4 r m w q q2 q3 q4 k e [] = refl
+turn_of {A} t1 t2 t3 t4 r m w q q2 q3 q4 k e (t ∷ ts) = by (t1 (symbol_of t)) (t2 (symbol_of t)) (t3 (symbol_of t)) (t4 (symbol_of t)) r m w
   where
-    by : (a b c r m w : Bool) → cond (a || (b || c)) (and_then (cond a (within r Many q (t ∷ ts)) (cond b (within m Deep (within r Many q2) (t ∷ ts)) (within w Many q3 (t ∷ ts)))) k) (e (t ∷ ts))
-        ≡ cond a (within r Many (q ▷ k) (t ∷ ts)) (cond b (within m Deep (within r Many (q2 ▷ k)) (t ∷ ts)) (cond c (within w Many (q3 ▷ k) (t ∷ ts)) (e (t ∷ ts))))
-    by true b c true m w = refl
-    by true b c false m w = refl
-    by false true c true true w = refl
-    by false true c false true w = refl
-    by false true c r false w = refl
-    by false false true r m true = refl
-    by false false true r m false = refl
-    by false false false r m w = refl
+    by : (a b c d r m w : Bool) → cond (a || (b || (c || d))) (and_then (cond a (within r Many q (t ∷ ts)) (cond b (within m Deep (within r Many q2) (t ∷ ts)) (cond c (within m Deep (within r Many q3) (t ∷ ts)) (within w Many q4 (t ∷ ts))))) k) (e (t ∷ ts))
+        ≡ cond a (within r Many (q ▷ k) (t ∷ ts)) (cond b (within m Deep (within r Many (q2 ▷ k)) (t ∷ ts)) (cond c (within m Deep (within r Many (q3 ▷ k)) (t ∷ ts)) (cond d (within w Many (q4 ▷ k) (t ∷ ts)) (e (t ∷ ts)))))
+    by true b c d true m w = refl
+    by true b c d false m w = refl
+    by false true c d true true w = refl
+    by false true c d false true w = refl
+    by false true c d r false w = refl
+    by false false true d true true w = refl
+    by false false true d false true w = refl
+    by false false true d r false w = refl
+    by false false false true r m true = refl
+    by false false false true r m false = refl
+    by false false false false r m w = refl
 
 pub shrinks_choose : {A : Type 0} (test : Lexeme → Bool) (q s : Parser A) → Shrinks q → Shrinks s → Shrinks (choose test q s)
 shrinks_choose {A} test q s f g ts = by (sees test ts)
@@ -200,3 +204,24 @@ shrinks_choose {A} test q s f g ts = by (sees test ts)
     by : (b : Bool) → Within (cond b (q ts) (s ts)) (length ts)
     by true = f ts
     by false = g ts
+
+pub shrinks_within : {A : Type 0} (room : Bool) (cause : Cause) (q : Parser A) → (room ≡ true → Shrinks q) → Shrinks (within room cause q)
+shrinks_within true cause q h = h refl
+shrinks_within false cause q h = λ ts. omega arith
+
+-- one of two marks, and then something
+pub bites_two : {A : Type 0} (a b : Symbol) (f g : ℕ → Parser A) → ((x : ℕ) → Shrinks (f x)) → ((x : ℕ) → Shrinks (g x)) →
+    Bites (choose (is a) (token (marked a) ▷ f) (token (marked b) ▷ g)) (on (λ c. same a c || same b c))
+bites_two {A} a b f g F G ts h = by (which (sees (is a) ts))
+  where
+    other : (ts : Lexemes) → sees (on (λ c. same a c || same b c)) ts ≡ true → sees (is a) ts ≡ false → sees (is b) ts ≡ true
+    other [] h no_ = h
+    other (t ∷ ts) h no_ = pick (is a t) (is b t) h no_
+      where
+        pick : (x y : Bool) → (x || y) ≡ true → x ≡ false → y ≡ true
+        pick true y h e = differ true refl e
+        pick false y h e = h
+
+    by : (sees (is a) ts ≡ true) ⊎ (sees (is a) ts ≡ false) → Past (choose (is a) (token (marked a) ▷ f) (token (marked b) ▷ g) ts) (length ts)
+    by (inl is_so) = subst (λ (v : Outcome A). Past v (length ts)) (sym (choose_true (is a) (token (marked a) ▷ f) (token (marked b) ▷ g) ts is_so)) (bites_mark a f F ts is_so)
+    by (inr isnt) = subst (λ (v : Outcome A). Past v (length ts)) (sym (choose_false (is a) (token (marked a) ▷ f) (token (marked b) ▷ g) ts isnt)) (bites_mark b g G ts (other ts h isnt))

@@ -1,168 +1,39 @@
 -- Statements are read exactly.
-use Rattle.std.proofs.Common.{◌≡◌, ℕ, zero, suc, ◌+◌, ◌<◌, ◌≤◌, Bool, true, false, not, ◌||◌, cond, [], ◌∷◌, ◌++◌, length, Option, Some, None, Ok, refl, sym, ap, subst, ◌∙◌, ◌⊎◌, inl, inr, nat_lt, arith}
+use Rattle.std.proofs.Common.{◌≡◌, ℕ, zero, suc, ◌+◌, ◌≤◌, Bool, true, false, not, ◌||◌, [], ◌∷◌, length, Some, None, Ok, refl, sym, ap, ◌∙◌, ◌⊎◌, inl, inr, nat_lt, arith}
 use Rattle.parsing.specs.declared.symbol.Symbol.{Symbol}
 use Rattle.parsing.specs.declared.symbol.Symbol.TheVariants as s
-use Rattle.parsing.specs.declared.cursor.Word.{Word}
 use Rattle.parsing.specs.declared.fault.Cause.{Cause}
-use Rattle.parsing.specs.declared.fault.Cause.TheVariants.{Expected, Many, Deep, Construct}
-use Rattle.parsing.specs.Symbol.{symbol_of}
-use Rattle.parsing.specs.Freed.{Freed, Frees, frees}
+use Rattle.parsing.specs.declared.fault.Cause.TheVariants.{Many, Deep, Construct}
+use Rattle.parsing.specs.Freed.{Freed, frees}
 use Rattle.parsing.specs.Freed.Freed.{Nothing as Nothing_freed}
-use Rattle.parsing.specs.Limit.{allows, less as fewer}
-use Rattle.parsing.specs.Terminal.{same, on, is, marked, names}
-use Rattle.parsing.specs.Reading.{◌>>=◌ as ◌▷◌, Lexemes, Parser, and_then, sees, fault, choose, within, pure}
-use Rattle.parsing.specs.Grammar.{Grammar, one, gives, ◌>>=◌ as ◌⨟◌, ◌or◌, where_}
-use Rattle.fl_ast.specs.declared.expr.Expr.{Expr}
-use Rattle.fl_expressions.specs.declared.tree.Measured.{Measured}
-use Rattle.fl_expressions.specs.ExprGrammar as ge
-use Rattle.fl_expressions.specs.ExprReading as pe
+use Rattle.parsing.specs.Limit.{less as fewer}
+use Rattle.parsing.specs.Terminal.{same, on, is, names}
+use Rattle.parsing.specs.Reading.{◌>>=◌ as ◌▷◌, Lexemes, Parser, sees, fault, choose, within, pure}
+use Rattle.parsing.specs.Grammar.{Grammar, gives, ◌>>=◌ as ◌⨟◌, ◌or◌, where_}
 use Rattle.fl_statements.specs.declared.block.Awaited.{Awaited}
 use Rattle.fl_statements.specs.declared.block.Awaited.TheVariants.{Nothing, LoopEnd, AtomicEnd}
 use Rattle.fl_statements.specs.declared.block.Block.{Block}
 use Rattle.fl_statements.specs.declared.block.LoopLine.{LoopLine}
 use Rattle.fl_statements.specs.Limits.{Limits}
-use Rattle.fl_statements.specs.Trees.{block_from, assigned, scalar_target, element_target, loop_line_of, parts_of, looped, ended, is_awaited}
+use Rattle.fl_statements.specs.Trees.{block_from, parts_of, looped, ended, is_awaited}
 use Rattle.fl_expressions.specs.Wide.{More}
 use Rattle.fl_statements.specs.Wide.{Widens}
 use Rattle.tokens.specs.Lexeme.{Lexeme}
 use Rattle.fl_statements.specs.StmtGrammar as g
 use Rattle.fl_statements.specs.StmtReading as p
 use Rattle.fl_statements.specs.StmtReading.{begins_stmt}
-use Rattle.omp_clauses.specs.LineGrammar as go
 use Rattle.omp_clauses.specs.LineReading as po
 use Rattle.parsing.proofs.Outcomes.{never, differ, which, ok_err, choose_true, choose_false, shrinks_pure, shrinks_seq, Bites, Shrinks, bites_seq}
-use Rattle.parsing.proofs.Exact.{Exact, Room, always_room, room_of, frees_less, Begins, Meets, pure_exact, seq, shrinks_token, either_within}
-use Rattle.parsing.proofs.Rules.{narrow, anywhere, either, optional, restate, begins_seq, begins_or, begins_where, meets_never, gives_meets, meets_or, shrinks_optional, mapped, Opens, opens_or, opens_begins, opens_gives, begins_opens}
-use Rattle.parsing.proofs.OnSymbols.{less, among, meets, begins_in, begins_mark, begins_name, mark_exact, name_exact, mark_then, bites_mark, bites_name, apart}
+use Rattle.parsing.proofs.Exact.{Exact, Room, always_room, frees_less, Begins, Meets, pure_exact, seq, either_within}
+use Rattle.parsing.proofs.Rules.{anywhere, restate, begins_seq, begins_or, begins_where, meets_never, gives_meets, meets_or, mapped}
+use Rattle.parsing.proofs.OnSymbols.{less, among, meets, begins_in, begins_mark, mark_then, bites_mark}
 use Rattle.omp_clauses.proofs.LineExact.{atomic_exact, atomic_begins, atomic_bites as atomic_line_bites, end_parallel_exact, end_atomic_exact, parallel_exact, parallel_begins, parallel_bites}
-use Rattle.fl_expressions.proofs.Exprs.{binds, expr_exact, brackets_room, list_exact, list_begins, list_bites}
-use Rattle.fl_statements.proofs.Guards.{construct_stays, counted, fixed_room, guarded, bites_within, alike, turn_of, shrinks_choose, takes_some, list_exact as steps_exact}
-
--- ---- the last line of a loop
-
-end_do_exact : (l : Freed) → Exact l g.end_do never p.end_do p.end_do
-unfolding g.end_do p.end_do
-end_do_exact l = either (mark_then s.EndDo _ _ _ (λ _. mark_exact s.LineEnd)) (mark_then s.End _ _ _ (λ _. mark_then s.Do _ _ _ (λ _. mark_exact s.LineEnd))) (begins_seq _ (begins_mark s.EndDo))
-    (meets (same s.End) (same s.EndDo) never _ (begins_seq _ (begins_mark s.End)) refl refl)
-
-abbrev ends_do : Symbol → Bool
-ends_do = among (s.EndDo ∷ s.End ∷ [])
-
-end_do_begins : Begins g.end_do (on ends_do)
-unfolding g.end_do
-end_do_begins = begins_or _ _ (on ends_do) (begins_in (same s.EndDo) ends_do _ (begins_seq _ (begins_mark s.EndDo)) refl refl) (begins_in (same s.End) ends_do _ (begins_seq _ (begins_mark s.End)) refl refl)
-
-loop_name_exact : (l : Freed) → Exact l g.loop_name never p.loop_name p.loop_name
-unfolding g.loop_name p.loop_name
-loop_name_exact l = mark_then s.Do _ _ _ (λ line. seq name_exact (λ x. mark_then s.Equals _ _ _ (λ _. pure_exact (line, x))) (λ x. meets_never never _))
-
-loop_name_begins : Begins g.loop_name (is s.Do)
-unfolding g.loop_name
-loop_name_begins = begins_seq _ (begins_mark s.Do)
-
-loop_name_bites : Bites p.loop_name (is s.Do)
-unfolding p.loop_name
-loop_name_bites = bites_mark s.Do _ (λ line. shrinks_seq _ _ (shrinks_token _) (λ x. shrinks_seq _ _ (shrinks_token _) (λ _. shrinks_pure {A = ℕ × Word} (line, x))))
+use Rattle.fl_expressions.proofs.Exprs.{brackets_room}
+use Rattle.fl_statements.proofs.AssignExact.{end_do_exact, ends_do, end_do_begins, loop_line_exact, loop_line_begins, loop_line_bites, assign_exact, assign_begins, assign_bites, counts}
+use Rattle.fl_statements.proofs.IfExact.{if_exact, if_begins, if_bites}
+use Rattle.fl_statements.proofs.Guards.{counted, fixed_room, guarded, bites_within, alike, turn_of, shrinks_choose, shrinks_within, takes_some, list_exact as steps_exact}
 
 module _ (l : Freed) (limits wide : Limits) (W : Widens l limits wide) where
-  abbrev F : Frees l Deep (fewer limits.depth) (fewer wide.depth)
-  F = frees_less W.depth
-
-  whole_exact : Exact l (ge.expr limits.brackets (fewer limits.depth)) (on binds) (pe.expr limits.brackets (fewer limits.depth)) (pe.expr wide.brackets (fewer wide.depth))
-  whole_exact = expr_exact l limits.brackets wide.brackets W.brackets (fewer limits.depth) (fewer wide.depth) F
-
-  -- ---- assignments
-
-  indexed_target_exact : nat_lt 0 limits.brackets ≡ true → (x : Word) → Exact l (g.indexed_target limits x) never (p.indexed_target limits x) (p.indexed_target wide x)
-  unfolding g.indexed_target p.indexed_target
-  indexed_target_exact so x = seq (list_exact l limits.brackets wide.brackets W.brackets (fewer limits.depth) (fewer wide.depth) F so) (λ found. pure_exact (element_target x found)) (λ found. meets_never never _)
-
-  indexed_target_begins : (x : Word) → Begins (g.indexed_target limits x) (is s.Open)
-  unfolding g.indexed_target
-  indexed_target_begins x = begins_seq _ (list_begins l limits.brackets wide.brackets W.brackets (fewer limits.depth) (fewer wide.depth) F)
-
-  indexed_target_bites : nat_lt 0 wide.brackets ≡ true → (x : Word) → Bites (p.indexed_target wide x) (is s.Open)
-  unfolding p.indexed_target
-  indexed_target_bites so x = bites_seq _ _ (is s.Open) (list_bites l limits.brackets wide.brackets W.brackets (fewer limits.depth) (fewer wide.depth) F so) (λ found. shrinks_pure (element_target x found))
-
-  after_target_exact : (x : Word) → Exact l (g.after_target limits x) (is s.Open) (p.after_target limits x) (p.after_target wide x)
-  unfolding g.after_target p.after_target
-  after_target_exact x = either_within (nat_lt 0 limits.brackets) (nat_lt 0 wide.brackets) Deep (brackets_room l limits.brackets wide.brackets W.brackets (fewer limits.depth) (fewer wide.depth) F)
-      (λ so. anywhere (indexed_target_exact so x)) (λ _ so. indexed_target_bites so x)
-      (anywhere (pure_exact (scalar_target x))) (indexed_target_begins x) (gives_meets (scalar_target x) (is s.Open) (is s.Open) (λ rest h. h))
-
-  right_side_exact : Exact l (g.right_side limits) never (p.right_side limits) (p.right_side wide)
-  unfolding g.right_side p.right_side
-  right_side_exact = mark_then s.Equals _ _ _ (λ _. seq whole_exact (λ e. mark_then s.LineEnd _ _ _ (λ _. pure_exact e))
-      (λ e. meets (same s.LineEnd) binds never _ (begins_seq _ (begins_mark s.LineEnd)) refl refl))
-
-  right_side_begins : Begins (g.right_side limits) (is s.Equals)
-  unfolding g.right_side
-  right_side_begins = begins_seq _ (begins_mark s.Equals)
-
-  pub assign_to_exact : (atomic : Bool) (c : Block) (x : Word) → Exact l (g.assign_to limits atomic c x) never (p.assign_to limits atomic c x) (p.assign_to wide atomic c x)
-  unfolding g.assign_to p.assign_to
-  assign_to_exact atomic c x = seq (after_target_exact x) (λ t. mapped right_side_exact (assigned atomic c t)) (λ t. meets (same s.Equals) (same s.Open) never _ (begins_seq _ right_side_begins) refl refl)
-
-  assign_exact : (atomic : Bool) (c : Block) → Exact l (g.assign limits atomic c) never (p.assign limits atomic c) (p.assign wide atomic c)
-  unfolding g.assign p.assign
-  assign_exact atomic c = seq name_exact (assign_to_exact atomic c) (λ x. meets_never never _)
-
-  assign_begins : (atomic : Bool) (c : Block) → Begins (g.assign limits atomic c) (on names)
-  unfolding g.assign
-  assign_begins atomic c = begins_seq _ begins_name
-
-  assign_bites : (atomic : Bool) (c : Block) → Bites (p.assign wide atomic c) (on names)
-  unfolding p.assign
-  assign_bites atomic c = bites_name _ (λ x. (assign_to_exact atomic c x).shrinks)
-
-  -- ---- first lines of loops
-
-  first_bound_exact : Exact l (g.first_bound limits) never (p.first_bound limits) (p.first_bound wide)
-  unfolding g.first_bound p.first_bound
-  first_bound_exact = seq whole_exact (λ e. mark_then s.Comma _ _ _ (λ _. pure_exact e)) (λ e. meets (same s.Comma) binds never _ (begins_seq _ (begins_mark s.Comma)) refl refl)
-
-  -- what goes on with a step, or with none
-  abbrev steps : Symbol → Bool
-  steps = among (s.Comma ∷ s.Open ∷ s.Power ∷ s.Star ∷ s.Slash ∷ s.Plus ∷ s.Minus ∷ [])
-
-  -- what stands behind the last bound
-  abbrev ends_bound : Symbol → Bool
-  ends_bound = among (s.Comma ∷ s.LineEnd ∷ [])
-
-  loop_step_exact : Exact l (g.loop_step limits) (on steps) (p.loop_step limits) (p.loop_step wide)
-  unfolding g.loop_step p.loop_step
-  loop_step_exact = optional None (mark_then s.Comma _ _ _ (λ _. narrow (mapped whole_exact (λ (e : Measured). Some e.expr)) (less binds steps refl refl))) (begins_seq _ (begins_mark s.Comma)) (less (same s.Comma) steps refl refl)
-
-  loop_end_begins : (x : ℕ × Word) (first last : Measured) → Begins (g.loop_step limits ⨟ (λ step. one (marked s.LineEnd) ⨟ (λ _. gives (loop_line_of x first last step)))) (on ends_bound)
-  unfolding g.loop_step
-  loop_end_begins x first last = begins_opens _ _ (on ends_bound)
-      (opens_or _ _ (on ends_bound) (opens_begins _ (on ends_bound) (begins_in (same s.Comma) ends_bound _ (begins_seq _ (begins_mark s.Comma)) refl refl)) (opens_gives None (on ends_bound)))
-      (λ step. begins_in (same s.LineEnd) ends_bound _ (begins_seq _ (begins_mark s.LineEnd)) refl refl)
-
-  loop_line_exact : Exact l (g.loop_line limits) never (p.loop_line limits) (p.loop_line wide)
-  unfolding g.loop_line p.loop_line
-  loop_line_exact = seq (loop_name_exact l)
-      (λ x. seq first_bound_exact
-      (λ first. seq whole_exact
-      (λ last. seq loop_step_exact (λ step. mark_then s.LineEnd _ _ _ (λ _. pure_exact (loop_line_of x first last step)))
-      (λ step. meets (same s.LineEnd) steps never _ (begins_seq _ (begins_mark s.LineEnd)) refl refl))
-      (λ last. meets ends_bound binds never _ (loop_end_begins x first last) refl refl))
-      (λ first. meets_never never _))
-      (λ x. meets_never never _)
-
-  loop_line_begins : Begins (g.loop_line limits) (is s.Do)
-  unfolding g.loop_line
-  loop_line_begins = begins_seq _ loop_name_begins
-
-  loop_line_bites : Bites (p.loop_line wide) (is s.Do)
-  unfolding p.loop_line
-  loop_line_bites = bites_seq _ _ (is s.Do) loop_name_bites (λ x. shrinks_seq _ _ (first_bound_exact.shrinks) (λ first. shrinks_seq _ _ (whole_exact.shrinks) (λ last. shrinks_seq _ _ (loop_step_exact.shrinks)
-      (λ step. shrinks_seq _ _ (shrinks_token _) (λ _. shrinks_pure (loop_line_of x first last step))))))
-
-  counts : (c : Block) → Room l Many (g.has_room limits c) (p.has_room wide c)
-  counts c = room_of W.statements (c.count + 1)
-
   module _ (may may2 : Bool) (nests : Room l Deep may may2) (ig : Bool → Block → Grammar Block) (ip ip2 : Bool → Block → Parser Block)
       (inner : may ≡ true → (within_ : Bool) (c : Block) → Exact l (ig within_ c) (on begins_stmt) (ip within_ c) (ip2 within_ c))
       (inner_shrinks : may2 ≡ true → (within_ : Bool) (c : Block) → Shrinks (ip2 within_ c)) (inside : Bool) where
@@ -170,25 +41,25 @@ module _ (l : Freed) (limits wide : Limits) (W : Widens l limits wide) where
 
     parts_exact : may ≡ true → (within_ : Bool) (count loops : ℕ) → Exact l (g.loop_parts limits may ig inside within_ count loops) never (p.loop_parts limits may ip inside within_ count loops) (p.loop_parts wide may2 ip2 inside within_ count loops)
     unfolding g.loop_parts p.loop_parts
-    parts_exact so within_ count loops = seq loop_line_exact
+    parts_exact so within_ count loops = seq (loop_line_exact l limits wide W)
         (λ h. seq (inner so within_ (block_from (count + 1) (loops + 1))) (λ body. mapped (end_do_exact l) (λ _. parts_of h body))
         (λ body. meets ends_do begins_stmt never _ (begins_seq _ end_do_begins) refl refl))
         (λ h. meets_never never _)
 
     parts_begins : (within_ : Bool) (count loops : ℕ) → Begins (g.loop_parts limits may ig inside within_ count loops) (is s.Do)
     unfolding g.loop_parts
-    parts_begins within_ count loops = begins_seq _ loop_line_begins
+    parts_begins within_ count loops = begins_seq _ (loop_line_begins l limits wide W)
 
     after_line_shrinks : may2 ≡ true → (within_ : Bool) (count loops : ℕ) (h : LoopLine) → Shrinks (ip2 within_ (block_from (count + 1) (loops + 1)) ▷ (λ body. p.end_do ▷ (λ _. pure (parts_of h body))))
     after_line_shrinks so within_ count loops h = shrinks_seq _ _ (inner_shrinks so within_ (block_from (count + 1) (loops + 1))) (λ body. shrinks_seq _ _ ((end_do_exact l).shrinks) (λ _. shrinks_pure (parts_of h body)))
 
     parts_bites : may2 ≡ true → (within_ : Bool) (count loops : ℕ) → Bites (p.loop_parts wide may2 ip2 inside within_ count loops) (is s.Do)
     unfolding p.loop_parts
-    parts_bites so within_ count loops = bites_seq _ _ (is s.Do) loop_line_bites (after_line_shrinks so within_ count loops)
+    parts_bites so within_ count loops = bites_seq _ _ (is s.Do) (loop_line_bites l limits wide W) (after_line_shrinks so within_ count loops)
 
     parts_shrinks : may2 ≡ true → (within_ : Bool) (count loops : ℕ) → Shrinks (p.loop_parts wide may2 ip2 inside within_ count loops)
     unfolding p.loop_parts
-    parts_shrinks so within_ count loops = shrinks_seq _ _ (loop_line_exact.shrinks) (after_line_shrinks so within_ count loops)
+    parts_shrinks so within_ count loops = shrinks_seq _ _ ((loop_line_exact l limits wide W).shrinks) (after_line_shrinks so within_ count loops)
 
     do_exact : may ≡ true → (c : Block) → Exact l (g.do_stmt limits may ig inside c) never (p.do_stmt limits may ip inside c) (p.do_stmt wide may2 ip2 inside c)
     unfolding g.do_stmt p.do_stmt
@@ -221,7 +92,7 @@ module _ (l : Freed) (limits wide : Limits) (W : Widens l limits wide) where
 
     atomic_is_exact : (c : Block) → Exact l (g.atomic limits may ig inside c) never (p.atomic limits may ip inside c) (p.atomic wide may2 ip2 inside c)
     unfolding g.atomic p.atomic
-    atomic_is_exact c = seq (atomic_exact l) (λ _. assign_exact true c) (λ _. meets_never never _)
+    atomic_is_exact c = seq (atomic_exact l) (λ _. assign_exact l limits wide W true c) (λ _. meets_never never _)
 
     atomic_is_begun : (c : Block) → Begins (g.atomic limits may ig inside c) (is s.Atomic)
     unfolding g.atomic
@@ -229,7 +100,7 @@ module _ (l : Freed) (limits wide : Limits) (W : Widens l limits wide) where
 
     atomic_bites : (c : Block) → Bites (p.atomic wide may2 ip2 inside c) (is s.Atomic)
     unfolding p.atomic
-    atomic_bites c = bites_seq _ _ (is s.Atomic) (atomic_line_bites l) (λ _. (assign_exact true c).shrinks)
+    atomic_bites c = bites_seq _ _ (is s.Atomic) (atomic_line_bites l) (λ _. (assign_exact l limits wide W true c).shrinks)
 
     end_loop_exact : (c : Block) → Exact l (g.end_loop limits may ig inside c) never (p.end_loop limits may ip inside c) (p.end_loop wide may2 ip2 inside c)
     unfolding g.end_loop p.end_loop
@@ -254,7 +125,7 @@ module _ (l : Freed) (limits wide : Limits) (W : Widens l limits wide) where
     with_end : (c : Block) (N : Grammar Block) (q q2 : Parser Block) → Exact l N never q q2 → Begins N (is s.End) →
         Exact l (where_ (g.has_room limits c) (g.atomic limits may ig inside c) or N) never (choose (is s.Atomic) (within (p.has_room limits c) Many (p.atomic limits may ip inside c)) q)
         (choose (is s.Atomic) (within (p.has_room wide c) Many (p.atomic wide may2 ip2 inside c)) q2)
-    with_end c N q q2 E begins = either_within (p.has_room limits c) (p.has_room wide c) Many (counts c) (λ _. atomic_is_exact c) (λ _ _. atomic_bites c) E (atomic_is_begun c)
+    with_end c N q q2 E begins = either_within (p.has_room limits c) (p.has_room wide c) Many (counts l limits wide W c) (λ _. atomic_is_exact c) (λ _ _. atomic_bites c) E (atomic_is_begun c)
         (meets (same s.End) (same s.Atomic) never _ begins refl refl)
 
     lesser_exact : (a : Awaited) (c : Block) → (g.has_room limits c || is_awaited a) ≡ true → Exact l (lesser_grammar a c) never (p.lesser limits may ip inside a c) (p.lesser wide may2 ip2 inside a c)
@@ -287,8 +158,8 @@ module _ (l : Freed) (limits wide : Limits) (W : Widens l limits wide) where
     after_sentinel_exact c so line =
         guarded (not inside) (not inside) Construct (fixed_room (not inside))
         (λ _. guarded may may2 Deep nests
-        (λ here. either_within (p.has_room limits c) (p.has_room wide c) Many (counts c) (λ _. loop_exact here c line) (λ _ _. loop_bites (nests.grows here) c line) other begins apart_)
-        (λ no yes. bites_within _ _ Many _ (counted (counts c) (sym (nests.lifts no) ∙ yes)) (loop_bites yes c line)) other (begins_where _ _ _ begins) apart_)
+        (λ here. either_within (p.has_room limits c) (p.has_room wide c) Many (counts l limits wide W c) (λ _. loop_exact here c line) (λ _ _. loop_bites (nests.grows here) c line) other begins apart_)
+        (λ no yes. bites_within _ _ Many _ (counted (counts l limits wide W c) (sym (nests.lifts no) ∙ yes)) (loop_bites yes c line)) other (begins_where _ _ _ begins) apart_)
         (λ no yes. differ (not inside) yes no) other (begins_where _ _ _ (begins_where _ _ _ begins)) apart_
       where
         other : Exact l (lesser_grammar c.awaited c) never (p.lesser limits may ip inside c.awaited c) (p.lesser wide may2 ip2 inside c.awaited c)
@@ -313,10 +184,6 @@ module _ (l : Freed) (limits wide : Limits) (W : Widens l limits wide) where
     lesser_shrinks LoopEnd c = (with_end c _ _ _ (end_loop_exact c) (end_loop_begins c)).shrinks
     lesser_shrinks AtomicEnd c = (with_end c _ _ _ (end_atomic_is_exact c) (end_atomic_begins c)).shrinks
 
-    shrinks_within : (room : Bool) (cause : Cause) (q : Parser Block) → (room ≡ true → Shrinks q) → Shrinks (within room cause q)
-    shrinks_within true cause q h = h refl
-    shrinks_within false cause q h = λ ts. omega arith
-
     parallel_shrinks : may2 ≡ true → (c : Block) (line : ℕ) → Shrinks (p.parallel wide may2 ip2 inside c line)
     unfolding p.parallel
     parallel_shrinks so c line = shrinks_seq _ _ ((parallel_exact l limits.once wide.once W.once line).shrinks) (λ d. shrinks_seq _ _ (parts_shrinks so true c.count c.loops) (λ q. shrinks_pure (looped c (Some d) q)))
@@ -337,7 +204,7 @@ module _ (l : Freed) (limits wide : Limits) (W : Widens l limits wide) where
     -- ---- lists of statements
 
     may_room : (c : Block) → Room l Many (p.may_direct limits c) (p.may_direct wide c)
-    may_room c = or_room (g.has_room limits c) (p.has_room wide c) (is_awaited c.awaited) (counts c)
+    may_room c = or_room (g.has_room limits c) (p.has_room wide c) (is_awaited c.awaited) (counts l limits wide W c)
       where
         or_room : (r r2 a : Bool) → Room l Many r r2 → Room l Many (r || a) (r2 || a)
         or_room true r2 a R = record { grows = λ _. ap (λ v. v || a) (R.grows refl); lifts = λ h. differ true refl h }
@@ -369,8 +236,11 @@ module _ (l : Freed) (limits wide : Limits) (W : Widens l limits wide) where
         by Nothing false h (inr (inr m)) = absurd m
 
     module _ (K : Block → Grammar Block) (k k2 : Block → Parser Block) (then_ : (y : Block) → Exact l (K y) (on begins_stmt) (k y) (k2 y)) (c : Block) where
+      abbrev after_if : Grammar Block
+      after_if = where_ (p.may_direct limits c) (g.directive limits may ig inside c ⨟ K) or gives c
+
       abbrev after_do : Grammar Block
-      after_do = where_ (p.may_direct limits c) (g.directive limits may ig inside c ⨟ K) or gives c
+      after_do = where_ may (where_ (g.has_room limits c) (g.if_stmt limits may ig inside c ⨟ K)) or after_if
 
       abbrev after_assign : Grammar Block
       after_assign = where_ may (where_ (g.has_room limits c) (g.do_stmt limits may ig inside c ⨟ K)) or after_do
@@ -378,16 +248,35 @@ module _ (l : Freed) (limits wide : Limits) (W : Widens l limits wide) where
       abbrev turns_grammar : Grammar Block
       turns_grammar = where_ (g.has_room limits c) (g.assign limits false c ⨟ K) or after_assign
 
-      directed_exact : Exact l after_do (on begins_stmt) (choose (is s.Sentinel) (within (p.may_direct limits c) Many (p.directive limits may ip inside c ▷ k)) (pure c))
+      directed_exact : Exact l after_if (on begins_stmt) (choose (is s.Sentinel) (within (p.may_direct limits c) Many (p.directive limits may ip inside c ▷ k)) (pure c))
           (choose (is s.Sentinel) (within (p.may_direct wide c) Many (p.directive wide may2 ip2 inside c ▷ k2)) (pure c))
       directed_exact = either_within (p.may_direct limits c) (p.may_direct wide c) Many (may_room c)
           (λ so. seq (directive_exact c so) then_ (λ y. meets_never _ _)) (λ _ _. bites_seq _ _ (is s.Sentinel) (directive_bites c) (λ y. (then_ y).shrinks))
           (anywhere (pure_exact c)) (begins_seq _ (directive_begins c)) (gives_meets c (is s.Sentinel) (on begins_stmt) (less (same s.Sentinel) begins_stmt refl refl))
 
+      -- no If begins so
+      if_apart : Meets after_if (is s.If) (on begins_stmt)
+      if_apart = meets_or _ _ (is s.If) (on begins_stmt) (meets (same s.Sentinel) (same s.If) (on begins_stmt) _ (begins_where _ _ _ (begins_seq _ (directive_begins c))) refl refl)
+          (gives_meets c (is s.If) (on begins_stmt) (less (same s.If) begins_stmt refl refl))
+
+      if_then_begins : Begins (g.if_stmt limits may ig inside c ⨟ K) (is s.If)
+      if_then_begins = begins_seq _ (if_begins l limits wide W may may2 ig ip ip2 inner inner_shrinks nests.grows inside c)
+
+      if_then_bites : may2 ≡ true → Bites (p.if_stmt wide may2 ip2 inside c ▷ k2) (is s.If)
+      if_then_bites so = bites_seq _ _ (is s.If) (if_bites l limits wide W may may2 ig ip ip2 inner inner_shrinks nests.grows inside so c) (λ y. (then_ y).shrinks)
+
+      ifs_exact : Exact l after_do (on begins_stmt)
+          (choose (is s.If) (within may Deep (within (p.has_room limits c) Many (p.if_stmt limits may ip inside c ▷ k))) (choose (is s.Sentinel) (within (p.may_direct limits c) Many (p.directive limits may ip inside c ▷ k)) (pure c)))
+          (choose (is s.If) (within may2 Deep (within (p.has_room wide c) Many (p.if_stmt wide may2 ip2 inside c ▷ k2))) (choose (is s.Sentinel) (within (p.may_direct wide c) Many (p.directive wide may2 ip2 inside c ▷ k2)) (pure c)))
+      ifs_exact = guarded may may2 Deep nests
+          (λ here. either_within (p.has_room limits c) (p.has_room wide c) Many (counts l limits wide W c) (λ _. seq (if_exact l limits wide W may may2 ig ip ip2 inner inner_shrinks nests.grows inside here c) then_ (λ y. meets_never _ _)) (λ _ _. if_then_bites (nests.grows here)) directed_exact if_then_begins if_apart)
+          (λ no yes. bites_within _ _ Many _ (counted (counts l limits wide W c) (sym (nests.lifts no) ∙ yes)) (if_then_bites yes)) directed_exact (begins_where _ _ _ if_then_begins) if_apart
+
       -- no loop begins so
       do_apart : Meets after_do (is s.Do) (on begins_stmt)
-      do_apart = meets_or _ _ (is s.Do) (on begins_stmt) (meets (same s.Sentinel) (same s.Do) (on begins_stmt) _ (begins_where _ _ _ (begins_seq _ (directive_begins c))) refl refl)
-          (gives_meets c (is s.Do) (on begins_stmt) (less (same s.Do) begins_stmt refl refl))
+      do_apart = meets_or _ _ (is s.Do) (on begins_stmt) (meets (same s.If) (same s.Do) (on begins_stmt) _ (begins_where _ _ _ (begins_where _ _ _ if_then_begins)) refl refl)
+          (meets_or _ _ (is s.Do) (on begins_stmt) (meets (same s.Sentinel) (same s.Do) (on begins_stmt) _ (begins_where _ _ _ (begins_seq _ (directive_begins c))) refl refl)
+          (gives_meets c (is s.Do) (on begins_stmt) (less (same s.Do) begins_stmt refl refl)))
 
       do_then_begins : Begins (g.do_stmt limits may ig inside c ⨟ K) (is s.Do)
       do_then_begins = begins_seq _ (do_begins c)
@@ -396,46 +285,49 @@ module _ (l : Freed) (limits wide : Limits) (W : Widens l limits wide) where
       do_then_bites so = bites_seq _ _ (is s.Do) (do_bites so c) (λ y. (then_ y).shrinks)
 
       loops_exact : Exact l after_assign (on begins_stmt)
-          (choose (is s.Do) (within may Deep (within (p.has_room limits c) Many (p.do_stmt limits may ip inside c ▷ k))) (choose (is s.Sentinel) (within (p.may_direct limits c) Many (p.directive limits may ip inside c ▷ k)) (pure c)))
-          (choose (is s.Do) (within may2 Deep (within (p.has_room wide c) Many (p.do_stmt wide may2 ip2 inside c ▷ k2))) (choose (is s.Sentinel) (within (p.may_direct wide c) Many (p.directive wide may2 ip2 inside c ▷ k2)) (pure c)))
+          (choose (is s.Do) (within may Deep (within (p.has_room limits c) Many (p.do_stmt limits may ip inside c ▷ k))) (choose (is s.If) (within may Deep (within (p.has_room limits c) Many (p.if_stmt limits may ip inside c ▷ k))) (choose (is s.Sentinel) (within (p.may_direct limits c) Many (p.directive limits may ip inside c ▷ k)) (pure c))))
+          (choose (is s.Do) (within may2 Deep (within (p.has_room wide c) Many (p.do_stmt wide may2 ip2 inside c ▷ k2))) (choose (is s.If) (within may2 Deep (within (p.has_room wide c) Many (p.if_stmt wide may2 ip2 inside c ▷ k2))) (choose (is s.Sentinel) (within (p.may_direct wide c) Many (p.directive wide may2 ip2 inside c ▷ k2)) (pure c))))
       loops_exact = guarded may may2 Deep nests
-          (λ here. either_within (p.has_room limits c) (p.has_room wide c) Many (counts c) (λ _. seq (do_exact here c) then_ (λ y. meets_never _ _)) (λ _ _. do_then_bites (nests.grows here)) directed_exact do_then_begins do_apart)
-          (λ no yes. bites_within _ _ Many _ (counted (counts c) (sym (nests.lifts no) ∙ yes)) (do_then_bites yes)) directed_exact (begins_where _ _ _ do_then_begins) do_apart
+          (λ here. either_within (p.has_room limits c) (p.has_room wide c) Many (counts l limits wide W c) (λ _. seq (do_exact here c) then_ (λ y. meets_never _ _)) (λ _ _. do_then_bites (nests.grows here)) ifs_exact do_then_begins do_apart)
+          (λ no yes. bites_within _ _ Many _ (counted (counts l limits wide W c) (sym (nests.lifts no) ∙ yes)) (do_then_bites yes)) ifs_exact (begins_where _ _ _ do_then_begins) do_apart
 
       assign_apart : Meets after_assign (on names) (on begins_stmt)
       assign_apart = meets_or _ _ (on names) (on begins_stmt) (meets (same s.Do) names (on begins_stmt) _ (begins_where _ _ _ (begins_where _ _ _ do_then_begins)) refl refl)
+          (meets_or _ _ (on names) (on begins_stmt) (meets (same s.If) names (on begins_stmt) _ (begins_where _ _ _ (begins_where _ _ _ if_then_begins)) refl refl)
           (meets_or _ _ (on names) (on begins_stmt) (meets (same s.Sentinel) names (on begins_stmt) _ (begins_where _ _ _ (begins_seq _ (directive_begins c))) refl refl)
-          (gives_meets c (on names) (on begins_stmt) (less names begins_stmt refl refl)))
+          (gives_meets c (on names) (on begins_stmt) (less names begins_stmt refl refl))))
 
       all_exact : Exact l turns_grammar (on begins_stmt)
           (choose (on names) (within (p.has_room limits c) Many (p.assign limits false c ▷ k))
-          (choose (is s.Do) (within may Deep (within (p.has_room limits c) Many (p.do_stmt limits may ip inside c ▷ k))) (choose (is s.Sentinel) (within (p.may_direct limits c) Many (p.directive limits may ip inside c ▷ k)) (pure c))))
+          (choose (is s.Do) (within may Deep (within (p.has_room limits c) Many (p.do_stmt limits may ip inside c ▷ k))) (choose (is s.If) (within may Deep (within (p.has_room limits c) Many (p.if_stmt limits may ip inside c ▷ k))) (choose (is s.Sentinel) (within (p.may_direct limits c) Many (p.directive limits may ip inside c ▷ k)) (pure c)))))
           (choose (on names) (within (p.has_room wide c) Many (p.assign wide false c ▷ k2))
-          (choose (is s.Do) (within may2 Deep (within (p.has_room wide c) Many (p.do_stmt wide may2 ip2 inside c ▷ k2))) (choose (is s.Sentinel) (within (p.may_direct wide c) Many (p.directive wide may2 ip2 inside c ▷ k2)) (pure c))))
-      all_exact = either_within (p.has_room limits c) (p.has_room wide c) Many (counts c) (λ _. seq (assign_exact false c) then_ (λ y. meets_never _ _)) (λ _ _. bites_seq _ _ (on names) (assign_bites false c) (λ y. (then_ y).shrinks))
-          loops_exact (begins_seq _ (assign_begins false c)) assign_apart
+          (choose (is s.Do) (within may2 Deep (within (p.has_room wide c) Many (p.do_stmt wide may2 ip2 inside c ▷ k2))) (choose (is s.If) (within may2 Deep (within (p.has_room wide c) Many (p.if_stmt wide may2 ip2 inside c ▷ k2))) (choose (is s.Sentinel) (within (p.may_direct wide c) Many (p.directive wide may2 ip2 inside c ▷ k2)) (pure c)))))
+      all_exact = either_within (p.has_room limits c) (p.has_room wide c) Many (counts l limits wide W c) (λ _. seq (assign_exact l limits wide W false c) then_ (λ y. meets_never _ _)) (λ _ _. bites_seq _ _ (on names) (assign_bites l limits wide W false c) (λ y. (then_ y).shrinks))
+          loops_exact (begins_seq _ (assign_begins l limits wide W false c)) assign_apart
 
       turn_to : (x : Block) (us : Lexemes) → turns_grammar x us → ((g.stmt limits may ig inside c ⨟ K) or gives c) x us
       unfolding g.stmt
       turn_to x us (inl (r, (y, vs, ws, n, m, e))) = inl (y, vs, ws, inl (r, n), m, e)
       turn_to x us (inr (inl (r, (q, (y, vs, ws, n, m, e))))) = inl (y, vs, ws, inr (inl (r, (q, n))), m, e)
-      turn_to x us (inr (inr (inl (r, (y, vs, ws, n, m, e))))) = inl (y, vs, ws, inr (inr n), m, e)
-      turn_to x us (inr (inr (inr n))) = inr n
+      turn_to x us (inr (inr (inl (r, (q, (y, vs, ws, n, m, e)))))) = inl (y, vs, ws, inr (inr (inl (r, (q, n)))), m, e)
+      turn_to x us (inr (inr (inr (inl (r, (y, vs, ws, n, m, e)))))) = inl (y, vs, ws, inr (inr (inr n)), m, e)
+      turn_to x us (inr (inr (inr (inr n)))) = inr n
 
       turn_from : (x : Block) (us : Lexemes) → ((g.stmt limits may ig inside c ⨟ K) or gives c) x us → turns_grammar x us
       unfolding g.stmt
       turn_from x us (inl (y, vs, ws, inl (r, n), m, e)) = inl (r, (y, vs, ws, n, m, e))
       turn_from x us (inl (y, vs, ws, inr (inl (r, (q, n))), m, e)) = inr (inl (r, (q, (y, vs, ws, n, m, e))))
-      turn_from x us (inl (y, vs, ws, inr (inr n), m, e)) = inr (inr (inl (directed c y vs n, (y, vs, ws, n, m, e))))
-      turn_from x us (inr n) = inr (inr (inr n))
+      turn_from x us (inl (y, vs, ws, inr (inr (inl (r, (q, n)))), m, e)) = inr (inr (inl (r, (q, (y, vs, ws, n, m, e)))))
+      turn_from x us (inl (y, vs, ws, inr (inr (inr n)), m, e)) = inr (inr (inr (inl (directed c y vs n, (y, vs, ws, n, m, e)))))
+      turn_from x us (inr n) = inr (inr (inr (inr n)))
 
     turn_is : (lim : Limits) (m : Bool) (i : Bool → Block → Parser Block) (k : Block → Parser Block) (c : Block) (ts : Lexemes) →
         choose (on begins_stmt) (p.stmt lim m i inside c ▷ k) (pure c) ts
         ≡ choose (on names) (within (p.has_room lim c) Many (p.assign lim false c ▷ k))
-        (choose (is s.Do) (within m Deep (within (p.has_room lim c) Many (p.do_stmt lim m i inside c ▷ k))) (choose (is s.Sentinel) (within (p.may_direct lim c) Many (p.directive lim m i inside c ▷ k)) (pure c))) ts
+        (choose (is s.Do) (within m Deep (within (p.has_room lim c) Many (p.do_stmt lim m i inside c ▷ k))) (choose (is s.If) (within m Deep (within (p.has_room lim c) Many (p.if_stmt lim m i inside c ▷ k))) (choose (is s.Sentinel) (within (p.may_direct lim c) Many (p.directive lim m i inside c ▷ k)) (pure c)))) ts
     unfolding p.stmt
-    turn_is lim m i k c ts = turn_of names (same s.Do) (same s.Sentinel) (p.has_room lim c) m (p.may_direct lim c)
-        (p.assign lim false c) (p.do_stmt lim m i inside c) (p.directive lim m i inside c) k (pure c) ts
+    turn_is lim m i k c ts = turn_of names (same s.Do) (same s.If) (same s.Sentinel) (p.has_room lim c) m (p.may_direct lim c)
+        (p.assign lim false c) (p.do_stmt lim m i inside c) (p.if_stmt lim m i inside c) (p.directive lim m i inside c) k (pure c) ts
 
     turn_exact : (K : Block → Grammar Block) (k k2 : Block → Parser Block) → ((y : Block) → Exact l (K y) (on begins_stmt) (k y) (k2 y)) → (c : Block) →
         Exact l ((g.stmt limits may ig inside c ⨟ K) or gives c) (on begins_stmt) (choose (on begins_stmt) (p.stmt limits may ip inside c ▷ k) (pure c)) (choose (on begins_stmt) (p.stmt wide may2 ip2 inside c ▷ k2) (pure c))
@@ -447,12 +339,17 @@ module _ (l : Freed) (limits wide : Limits) (W : Widens l limits wide) where
         let r = p.has_room limits c in
         let a = p.assign limits false c in
         let d = p.do_stmt limits may ip inside c in
+        let f = p.if_stmt limits may ip inside c in
         let z = p.directive limits may ip inside c in
-        of_choice (on names) (within r Many a) (choose (is s.Do) (within may Deep (within r Many d)) (within (p.may_direct limits c) Many z)) ts
-        (of_room r Many a ts (λ _. takes_some (assign_exact false c) (assign_begins false c) ts mid y))
-        (of_choice (is s.Do) (within may Deep (within r Many d)) (within (p.may_direct limits c) Many z) ts
+        let last = within (p.may_direct limits c) Many z in
+        let ifs = choose (is s.If) (within may Deep (within r Many f)) last in
+        of_choice (on names) (within r Many a) (choose (is s.Do) (within may Deep (within r Many d)) ifs) ts
+        (of_room r Many a ts (λ _. takes_some (assign_exact l limits wide W false c) (assign_begins l limits wide W false c) ts mid y))
+        (of_choice (is s.Do) (within may Deep (within r Many d)) ifs ts
         (of_room may Deep (within r Many d) ts (λ so. of_room r Many d ts (λ _. takes_some (do_exact so c) (do_begins c) ts mid y)))
-        (of_room (p.may_direct limits c) Many z ts (λ so. takes_some (directive_exact c so) (directive_begins c) ts mid y))) e
+        (of_choice (is s.If) (within may Deep (within r Many f)) last ts
+        (of_room may Deep (within r Many f) ts (λ so. of_room r Many f ts (λ _. takes_some (if_exact l limits wide W may may2 ig ip ip2 inner inner_shrinks nests.grows inside so c) (if_begins l limits wide W may may2 ig ip ip2 inner inner_shrinks nests.grows inside c) ts mid y)))
+        (of_room (p.may_direct limits c) Many z ts (λ so. takes_some (directive_exact c so) (directive_begins c) ts mid y)))) e
       where
         of_choice : (test : Lexeme → Bool) (q r : Parser Block) (ts : Lexemes) → (q ts ≡ Ok (y, mid) → length mid + 1 ≤ length ts) → (r ts ≡ Ok (y, mid) → length mid + 1 ≤ length ts) →
             choose test q r ts ≡ Ok (y, mid) → length mid + 1 ≤ length ts

@@ -1,5 +1,5 @@
 -- The grammar of statements.
-use Rattle.std.specs.Prelude.{ℕ, zero, suc, nat_lt, ◌+◌, Bool, true, false, not, ◌||◌, Option, Some, None}
+use Rattle.std.specs.Prelude.{ℕ, zero, suc, nat_lt, ◌+◌, ◌-◌, Bool, true, false, not, Option, Some, None}
 use Rattle.fl_ast.specs.declared.expr.Expr.{Expr}
 use Rattle.parsing.specs.declared.symbol.Symbol.TheVariants as s
 use Rattle.parsing.specs.Limit.{allows, less}
@@ -16,6 +16,11 @@ use Rattle.fl_statements.specs.declared.block.Target.{Target}
 use Rattle.fl_statements.specs.declared.block.LoopLine.{LoopLine}
 use Rattle.fl_statements.specs.declared.block.LoopParts.{LoopParts}
 use Rattle.fl_statements.specs.Limits.{Limits}
+use Rattle.fl_conditions.specs.declared.tree.Judged.{Judged}
+use Rattle.fl_conditions.specs.CondGrammar.{cond}
+use Rattle.fl_statements.specs.declared.branch.Branch.{Branch}
+use Rattle.fl_statements.specs.Terminals.{plain_name, then_word}
+use Rattle.fl_statements.specs.Branches.{first_branch, with_arm, with_other, branched}
 use Rattle.fl_statements.specs.Trees.{block_from, scalar_target, element_target, assigned, loop_line_of, parts_of, looped, ended}
 
 -- "enddo" eol | "end" "do" eol
@@ -27,6 +32,17 @@ end_do =
     or (do
       end ← one (marked s.End)
       do_ ← one (marked s.Do)
+      one (marked s.LineEnd))
+
+-- "endif" eol | "end" "if" eol
+unfoldable pub end_if : Grammar ℕ
+end_if =
+    (do
+      endif ← one (marked s.EndIf)
+      one (marked s.LineEnd))
+    or (do
+      end ← one (marked s.End)
+      if_ ← one (marked s.If)
       one (marked s.LineEnd))
 
 -- "do" name "="
@@ -98,6 +114,31 @@ module _ (limits : Limits) where
     eol ← one (marked s.LineEnd)
     gives (loop_line_of x first last step)
 
+  -- ---- conditions of Ifs
+
+  -- "(" cond ")"
+  unfoldable pub guard : Grammar Judged
+  guard = do
+    open_ ← one (marked s.Open)
+    c ← cond (limits.brackets - 1) (less (less limits.depth))
+    close ← one (marked s.Close)
+    gives c
+
+  -- whether an If and an assignment under it fit
+  abbrev pub has_room_for_two : Block → Bool
+  has_room_for_two c = allows limits.statements (c.count + 2)
+
+  -- an assignment to this name under a one-line `if`
+  unfoldable pub conditional : Block → ℕ → Judged → Word → Grammar Block
+  conditional c line test x = do
+    body ← assign_to false (block_from (c.count + 1) c.loops) x
+    gives (branched c (first_branch line test.cond body))
+
+  unfoldable pub one_line : Block → ℕ → Judged → Grammar Block
+  one_line c line test = do
+    x ← one plain_name
+    conditional c line test x
+
   -- whether one more statement fits
   abbrev pub has_room : Block → Bool
   has_room c = allows limits.statements (c.count + 1)
@@ -117,6 +158,78 @@ module _ (limits : Limits) where
     do_stmt c = do
       p ← loop_parts inside c.count c.loops
       gives (looped c None p)
+
+    -- ---- Ifs
+
+    -- eol {stmt}, behind "then"
+    unfoldable pub first_arm : ℕ → ℕ → ℕ → Judged → Grammar Branch
+    first_arm count loops line test = do
+      eol ← one (marked s.LineEnd)
+      body ← inner inside (block_from (count + 1) loops)
+      gives (first_branch line test.cond body)
+
+    -- "(" cond ")" "then" eol {stmt}
+    unfoldable pub another_arm : Branch → Grammar Branch
+    another_arm b = do
+      test ← guard
+      then_ ← one (marked s.Then)
+      eol ← one (marked s.LineEnd)
+      body ← inner inside (block_from b.count b.loops)
+      gives (with_arm b test.cond body)
+
+    -- eol {stmt}, behind "else"
+    unfoldable pub last_part : Branch → Grammar Branch
+    last_part b = do
+      eol ← one (marked s.LineEnd)
+      body ← inner inside (block_from b.count b.loops)
+      gives (with_other b body)
+
+    unfoldable pub after_else : Branch → Grammar Branch
+    after_else b =
+        (do
+          if_ ← one (marked s.If)
+          another_arm b)
+        or last_part b
+
+    -- "elseif" .. | "else" "if" .. | "else" ..
+    unfoldable pub part : Branch → Grammar Branch
+    part b =
+        (do
+          elseif ← one (marked s.ElseIf)
+          another_arm b)
+        or (do
+          else_ ← one (marked s.Else)
+          after_else b)
+
+    -- none behind an `else`
+    unfoldable pub parts : Branch → Grammar Branch
+    parts = many (λ b. where_ (not b.closed) (part b))
+
+    unfoldable pub block_if : Block → ℕ → Judged → Grammar Block
+    block_if c line test = do
+      b ← first_arm c.count c.loops line test
+      found ← parts b
+      end ← end_if
+      gives (branched c found)
+
+    -- behind a `then`, which is a name or begins a block
+    unfoldable pub after_then : Block → ℕ → Judged → Word → Grammar Block
+    after_then c line test x = where_ (has_room_for_two c) (conditional c line test x) or block_if c line test
+
+    unfoldable pub then_part : Block → ℕ → Judged → Grammar Block
+    then_part c line test = do
+      x ← one then_word
+      after_then c line test x
+
+    unfoldable pub after_guard : Block → ℕ → Judged → Grammar Block
+    after_guard c line test = where_ (has_room_for_two c) (one_line c line test) or then_part c line test
+
+    -- "if" "(" cond ")" assign | "if" "(" cond ")" "then" eol {stmt} { else-if } [ else ] "end" "if" eol
+    unfoldable pub if_stmt : Block → Grammar Block
+    if_stmt c = do
+      line ← one (marked s.If)
+      test ← guard
+      after_guard c line test
 
     -- ---- directives, behind their sentinel
 
@@ -170,7 +283,8 @@ module _ (limits : Limits) where
     stmt c =
         where_ (has_room c) (assign false c)
         or (where_ may_nest (where_ (has_room c) (do_stmt c))
-        or directive c)
+        or (where_ may_nest (where_ (has_room c) (if_stmt c))
+        or directive c))
 
     unfoldable pub block : Block → Grammar Block
     block = many stmt

@@ -1,5 +1,5 @@
 -- The trees that are read.
-use Rattle.std.specs.Prelude.{ℕ, ◌+◌, Bool, true, false, List, [], ◌∷◌, ◌++◌, Option, Some, None}
+use Rattle.std.specs.Prelude.{ℕ, ◌+◌, Bool, true, false, [], ◌∷◌, ◌++◌, Option, Some, None}
 use Rattle.fl_ast.specs.declared.directive.Directive.{Directive}
 use Rattle.fl_ast.specs.declared.expr.Expr.{Expr}
 use Rattle.fl_ast.specs.declared.stmt.Stmt.TheVariants.{Assign, Do}

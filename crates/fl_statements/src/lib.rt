@@ -3,6 +3,8 @@
 
 mod assign;
 mod block;
+mod branch;
+mod ifs;
 mod limit;
 mod line;
 mod rules;

@@ -33,7 +33,8 @@ fn begins_stmt(tokens: &Cursor<'_>) -> bool
     ensures { result ≡ reading.sees (on spec.begins_stmt) tokens.now }
 {
     match tokens.ahead() {
-        Some(symbol) => symbol.names() || matches!(symbol, Symbol::Do | Symbol::Sentinel),
+        Some(symbol) => symbol.names()
+            || matches!(symbol, Symbol::Do | Symbol::If | Symbol::Sentinel),
         None => false,
     }
 }
@@ -52,7 +53,7 @@ impl<F: Fn(Global, &mut Cursor<'_>, Limits, usize, bool, Block) -> Result<Block,
     F,
 > {
     /// The statements of a block in this one.
-    fn inner_block(
+    pub fn inner_block(
         &self,
         tokens: &mut Cursor<'_>,
         inside: bool,
@@ -274,6 +275,23 @@ impl<F: Fn(Global, &mut Cursor<'_>, Limits, usize, bool, Block) -> Result<Block,
         self.do_stmt(tokens, found)
     }
 
+    fn if_within(&self, tokens: &mut Cursor<'_>, found: Block) -> Result<Block, Failure>
+        requires inner { ReadsInner self.now.limits self.now.blocks (F.pre self.now.inner) (F.post self.now.inner) }
+        requires shallow { self.now.limits.depth < 2 ^ 32 }
+        requires few { found.loops ≤ found.count }
+        requires fits { self.now.limits.statements < 2 ^ 32 }
+        ensures reads { Reads (reading.within (nat_lt 0 self.now.blocks) Cause.Deep (reading.within (spec.has_room (limits_of self.now.limits) found) Cause.Many (spec.if_stmt (limits_of self.now.limits) (nat_lt 0 self.now.blocks) (spec.nested (limits_of self.now.limits) self.now.blocks) self.now.inside found)) tokens.old) result tokens.new }
+        ensures few { IfOk result (λ x. x.loops ≤ x.count) }
+    {
+        if self.blocks == 0 {
+            return Err(tokens.refuse(Cause::Deep));
+        }
+        if !fits(self.limits, found.count) {
+            return Err(tokens.refuse(Cause::Many));
+        }
+        self.if_stmt(tokens, found)
+    }
+
     fn may_direct(&self, found: &Block) -> bool
         ensures { result ≡ spec.may_direct (limits_of self.now.limits) found.now }
     {
@@ -294,6 +312,9 @@ impl<F: Fn(Global, &mut Cursor<'_>, Limits, usize, bool, Block) -> Result<Block,
         }
         if tokens.sees(Symbol::Do) {
             return self.do_within(tokens, found);
+        }
+        if tokens.sees(Symbol::If) {
+            return self.if_within(tokens, found);
         }
         if !self.may_direct(&found) {
             return Err(tokens.refuse(Cause::Many));
