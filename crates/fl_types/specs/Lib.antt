@@ -6,3 +6,4 @@ pub mod Sharing
 pub mod Nests
 pub mod Accesses
 pub mod Kinds
+pub mod WellTyped
