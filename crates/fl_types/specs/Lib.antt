@@ -7,3 +7,5 @@ pub mod Nests
 pub mod Accesses
 pub mod Kinds
 pub mod WellTyped
+pub mod Mentions
+pub mod Rows

@@ -1,0 +1,5 @@
+//! Whether a program is typed, and else the first fault.
+#![tactic(auto)]
+
+mod around;
+mod rule;
