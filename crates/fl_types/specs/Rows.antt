@@ -7,15 +7,15 @@ use Rattle.fl_ast.specs.declared.kind.BinOp.TheVariants.{Div}
 use Rattle.fl_ast.specs.declared.kind.Fun.TheVariants.{Max, Min, Mod}
 use Rattle.fl_ast.specs.declared.decl.Decl.{Decl}
 use Rattle.fl_ast.specs.declared.stmt.Program.{Program}
-use Rattle.fl_ast.specs.Readable.{listed_names}
+use Rattle.fl_ast.specs.declared.directive.Directive.{Directive}
 use Rattle.fl_ast.specs.Same.{same_kind}
-use Rattle.fl_ast.specs.Tree.{Expression, literal, get, minus, binary, power, call, Expressions, no_expressions, expression, Designator, Statement, assignment, branch, loop, Statements, no_statements, statement, stmt_trees}
+use Rattle.fl_ast.specs.Tree.{Expression, literal, get, minus, binary, power, call, Expressions, no_expressions, expression, Designator, Statement, assignment, branch, loop, Statements, no_statements, statement, Arms, no_arms, arm, stmt_trees}
 use Rattle.fl_types.specs.declared.typed.TypeError.{TypeError}
 use Rattle.fl_types.specs.declared.typed.TypeError.TheVariants as fault
 use Rattle.fl_types.specs.Increment.{Signed, increment_terms}
 use Rattle.fl_types.specs.Kinds.{kind_of_name, kind_of_expression, kinds_of_expressions, is_index_kind, has_declared_rank, declared_names}
 use Rattle.fl_types.specs.Nests.{Head, is_one_loop, inner_head}
-use Rattle.fl_types.specs.Sharing.{has_name, is_ring_kind, is_ring_name, varies_in, assigns_in, sharing_in, is_private, ParallelLoop, loops_of_all}
+use Rattle.fl_types.specs.Sharing.{has_name, is_ring_name, varies_in, assigns_in}
 use Rattle.fl_types.specs.Supported.{is_declared, is_reserved}
 use Rattle.fl_types.specs.WellTyped.{declaration_of, is_argument_if_array, is_scalar_declared, is_index_scalar_argument, is_local_scalar, is_local_index_scalar, is_ring_scalar, is_read_only_argument, bytes_of_data, has_bytes}
 use Rattle.fl_types.specs.Mentions.{Region, Surroundings, Ending, a_value, an_index, an_assignment, Mention, the_unit, an_argument, a_declared, a_bounding, a_listed, a_directive, a_variable, a_target, a_use, a_number, an_exponent, mentions}
@@ -32,19 +32,35 @@ varies_in_loop l x = bytes_eq x l.var || varies_in x l.body
 
 -- the variable of a loop isn't private in it, even where it is listed
 abbrev pub is_private_in : Region → List ℕ → Bool
-is_private_in l x = is_private (sharing_in l.var l.directive l.body x)
+is_private_in l x = has_name x l.directive.privates && not (varies_in_loop l x)
 
-abbrev pub region : ParallelLoop → Region
-region l = record { directive = l.directive; var = l.var; body = l.body }
+abbrev pub is_private_by : Option Directive → List ℕ → Statements → List ℕ → Bool
+is_private_by None var body x = false
+is_private_by (Some d) var body x = is_private_in (record { directive = d; var = var; body = body }) x
+
+-- the name is private in a loop of the tree
+abbrev mutual
+  pub is_private_within : List ℕ → Statement → Bool
+  is_private_within x (assignment line atomic target value) = false
+  is_private_within x (branch line arms other) = is_private_within_arms x arms || is_private_within_all x other
+  is_private_within x (loop line number directive var first last step body) = is_private_by directive var body x || is_private_within_all x body
+
+  pub is_private_within_all : List ℕ → Statements → Bool
+  is_private_within_all x no_statements = false
+  is_private_within_all x (statement s rest) = is_private_within x s || is_private_within_all x rest
+
+  pub is_private_within_arms : List ℕ → Arms → Bool
+  is_private_within_arms x no_arms = false
+  is_private_within_arms x (arm test body rest) = is_private_within_all x body || is_private_within_arms x rest
 
 -- the name is private in a loop of the program
 abbrev pub is_private_name : Program → List ℕ → Bool
-is_private_name p x = list_any (λ l. is_private_in (region l) x) (loops_of_all [] (stmt_trees p.body))
+is_private_name p x = is_private_within_all x (stmt_trees p.body)
 
 -- in the loop the name is private, or the variable of a loop
 abbrev pub is_own_in : Option Region → List ℕ → Bool
 is_own_in None x = false
-is_own_in (Some l) x = is_private_in l x || varies_in_loop l x
+is_own_in (Some l) x = has_name x l.directive.privates || varies_in_loop l x
 
 -- a private name stands outside the loops in which it is private
 abbrev pub is_out_of_loop : Program → Surroundings → List ℕ → Bool
@@ -71,10 +87,14 @@ abbrev pub is_name_of : Option (List ℕ) → List ℕ → Bool
 is_name_of None x = false
 is_name_of (Some y) x = bytes_eq y x
 
--- `default(none)` stands, and the name is no loop variable and in no clause
+-- the name is in a clause
+abbrev pub is_listed : Directive → List ℕ → Bool
+is_listed d x = has_name x d.privates || (has_name x d.firsts || (has_name x d.shareds || has_name x d.pluses))
+
+-- `default(none)` stands, and the name is in no clause and no loop variable
 abbrev pub is_unlisted_in : Option Region → List ℕ → Bool
 is_unlisted_in None x = false
-is_unlisted_in (Some l) x = l.directive.none && (not (varies_in_loop l x) && not (has_name x (listed_names l.directive)))
+is_unlisted_in (Some l) x = l.directive.none && (not (is_listed l.directive x) && not (varies_in_loop l x))
 
 -- ---- what ends
 

@@ -2,4 +2,7 @@
 #![tactic(auto)]
 
 mod around;
+mod kinds;
+mod loops;
+mod names;
 mod rule;
