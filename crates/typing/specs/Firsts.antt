@@ -6,6 +6,12 @@ use Rattle.fl_ast.specs.declared.kind.BinOp.{BinOp}
 use Rattle.fl_ast.specs.declared.kind.BinOp.TheVariants.{Div}
 use Rattle.fl_ast.specs.declared.kind.Fun.{Fun}
 use Rattle.fl_ast.specs.declared.kind.Fun.TheVariants.{Max, Min, Mod}
+use Rattle.fl_ast.specs.declared.decl.Dim.{Dim}
+use Rattle.fl_ast.specs.declared.decl.Bound.{Bound}
+use Rattle.fl_ast.specs.declared.decl.Term.{Term}
+use Rattle.fl_ast.specs.declared.decl.Factor.{Factor}
+use Rattle.fl_ast.specs.declared.decl.Factor.TheVariants as factor
+use Rattle.fl_ast.specs.declared.decl.Sign.{Sign}
 use Rattle.fl_ast.specs.declared.decl.Decl.{Decl}
 use Rattle.fl_ast.specs.declared.directive.Directive.{Directive}
 use Rattle.fl_ast.specs.declared.stmt.Program.{Program}
@@ -224,8 +230,12 @@ at_subscripts a x = record { line = a.line; vars = a.vars; parallel = a.parallel
 abbrev pub at_bounds : Around → ℕ → Around
 at_bounds a line = record { line = line; vars = a.vars; parallel = if a.in_nest then None else a.parallel; in_nest = a.in_nest; own = a.own; subscript_of = a.subscript_of }
 
+-- with these variables of loops
+abbrev pub inside : Around → List (List ℕ) → Option Region → Around
+inside a vars parallel = record { line = a.line; vars = vars; parallel = or_around parallel a.parallel; in_nest = is_nested parallel; own = a.own; subscript_of = a.subscript_of }
+
 abbrev pub at_body : Around → List ℕ → Option Region → Around
-at_body a var parallel = record { line = a.line; vars = var ∷ a.vars; parallel = or_around parallel a.parallel; in_nest = is_nested parallel; own = a.own; subscript_of = a.subscript_of }
+at_body a var parallel = inside a (var ∷ a.vars) parallel
 
 abbrev pub is_bad_update : Program → Around → Bool → Designator → Expression → Bool
 is_bad_update p a atomic t e = atomic && (is_serial a.parallel || is_no_update (increment_terms (is_ring_name p.decls) t e))
@@ -236,14 +246,13 @@ takes_data p t e = is_index_kind (kind_of_name (declared_names p.decls) t.name) 
 abbrev pub ends_of_assignment : Program → Around → Bool → Designator → Expression → Ends
 ends_of_assignment p a atomic t e = record { clash = false; division = false; index = takes_data p t e; atomic = is_bad_update p a atomic t e }
 
-abbrev pub first_in_target : Program → Around → Designator → Option Told
-first_in_target p a t =
-    or_later (told a.line t.name (target_rule p a t.name (expression_count t.subscripts)))
-    (first_in_subscripts p (at_subscripts a t.name) nothing_ends t.subscripts)
+abbrev pub first_in_target : Program → Around → List ℕ → Expressions → Option Told
+first_in_target p a x ss =
+    or_later (told a.line x (target_rule p a x (expression_count ss))) (first_in_subscripts p (at_subscripts a x) nothing_ends ss)
 
 abbrev pub first_in_assignment : Program → Around → ℕ → Bool → Designator → Expression → Option Told
 first_in_assignment p a line atomic t e =
-    or_later (first_in_target p (at_assignment p a line t e) t) (first_in p (at_assignment p a line t e) (ends_of_assignment p a atomic t e) e)
+    or_later (first_in_target p (at_assignment p a line t e) t.name t.subscripts) (first_in p (at_assignment p a line t e) (ends_of_assignment p a atomic t e) e)
 
 abbrev pub first_in_bound : Program → Around → Expression → Option Told
 first_in_bound p a e = first_in p a (with_index (is_data p e) nothing_ends) e
@@ -295,12 +304,36 @@ abbrev pub first_in_args : Program → ℕ → List (List ℕ) → List (List �
 first_in_args p line earlier [] = None
 first_in_args p line earlier (x ∷ xs) = or_later (told line x (argument_rule p earlier x)) (first_in_args p line (earlier ++ x ∷ []) xs)
 
-abbrev pub first_in_bounds : Program → ℕ → List (List ℕ) → Option Told
-first_in_bounds p line [] = None
-first_in_bounds p line (x ∷ xs) = or_later (told line x (bounding_rule p x)) (first_in_bounds p line xs)
+-- the bounds of a declaration
+abbrev pub first_in_factor : Program → ℕ → Factor → Option Told
+first_in_factor p line (factor.Lit n) = None
+first_in_factor p line (factor.Minus n) = None
+first_in_factor p line (factor.Scalar x) = told line x (bounding_rule p x)
+
+abbrev pub first_in_second : Program → ℕ → Option Factor → Option Told
+first_in_second p line None = None
+first_in_second p line (Some f) = first_in_factor p line f
+
+abbrev pub first_in_term : Program → ℕ → Term → Option Told
+first_in_term p line t = or_later (first_in_factor p line t.first) (first_in_second p line t.second)
+
+abbrev pub first_in_rest : Program → ℕ → Option (Sign × Term) → Option Told
+first_in_rest p line None = None
+first_in_rest p line (Some r) = first_in_term p line r.1
+
+abbrev pub first_in_extent : Program → ℕ → Bound → Option Told
+first_in_extent p line b = or_later (first_in_term p line b.first) (first_in_rest p line b.rest)
+
+abbrev pub first_in_lower : Program → ℕ → Option Bound → Option Told
+first_in_lower p line None = None
+first_in_lower p line (Some b) = first_in_extent p line b
+
+abbrev pub first_in_dims : Program → ℕ → List Dim → Option Told
+first_in_dims p line [] = None
+first_in_dims p line (d ∷ ds) = or_later (first_in_lower p line d.lower) (or_later (first_in_extent p line d.upper) (first_in_dims p line ds))
 
 abbrev pub first_in_decl : Program → List Decl → Decl → Option Told
-first_in_decl p earlier d = or_later (told d.line d.name (declared_rule p earlier d)) (first_in_bounds p d.line (dim_names d.dims))
+first_in_decl p earlier d = or_later (told d.line d.name (declared_rule p earlier d)) (first_in_dims p d.line d.dims)
 
 abbrev pub first_in_decls : Program → List Decl → List Decl → Option Told
 first_in_decls p earlier [] = None

@@ -37,18 +37,18 @@ pub struct Region<'a> {
 
 /// What stands around a name or number of the body.
 #[derive(Clone, Copy)]
-pub struct Around<'a> {
+pub struct Around<'v, 't> {
     /// Of the innermost tree that has a line.
     pub line: u32,
-    pub vars: &'a Vars<'a>,
+    pub vars: &'v Vars<'v>,
     /// The parallel loop around it.
-    pub parallel: Option<Region<'a>>,
+    pub parallel: Option<Region<'t>>,
     /// Directly in a loop that is collapsed with the loop there.
     pub in_nest: bool,
     /// The name of which the statement is an increment.
-    pub own: Option<&'a Name>,
+    pub own: Option<&'t Name>,
     /// The target in whose subscripts it stands.
-    pub subscript_of: Option<&'a Name>,
+    pub subscript_of: Option<&'t Name>,
 }
 
 /// What is wrong with the expressions and the assignment that have their last name or number at a place.

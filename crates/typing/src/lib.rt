@@ -2,7 +2,13 @@
 #![tactic(auto)]
 
 mod around;
+mod ends;
+mod inside;
 mod kinds;
 mod loops;
 mod names;
 mod rule;
+mod rules;
+mod updates;
+mod walk;
+mod whole;

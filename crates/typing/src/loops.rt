@@ -1,6 +1,7 @@
 //! Names in loops.
 
-ghost use Rattle.std.specs.Prelude.{◌≡◌};
+ghost use Rattle.std.specs.Prelude.{◌≡◌, not, ◌||◌};
+ghost use Rattle.fl_types.specs.Nests as nests;
 ghost use Rattle.fl_ast.specs.Tree.{expr_tree, expr_trees, step_tree, stmt_tree, stmt_trees, arm_trees};
 ghost use Rattle.fl_types.specs.Sharing as sharing;
 ghost use Rattle.fl_types.specs.Rows as rows;
@@ -263,4 +264,57 @@ fn step_changing(step: &Option<Expr>, region: &Region<'_>) -> bool
         None => false,
         Some(expr) => some_changing(expr, region),
     }
+}
+
+/// Whether the bounds or the step of a loop go by what the loop around it changes.
+fn head_changing(
+    first: &Expr,
+    last: &Expr,
+    step: &Option<Expr>,
+    region: &Region<'_>,
+) -> bool
+    ensures { result ≡ rows.some_name (rows.changes_in (region_of region.now)) (expr_tree first.now)
+        || (rows.some_name (rows.changes_in (region_of region.now)) (expr_tree last.now)
+        || rows.some_step_name (rows.changes_in (region_of region.now)) (step_tree step.now)) }
+{
+    if some_changing(first, region) {
+        return true;
+    }
+    some_changing(last, region) || step_changing(step, region)
+}
+
+/// Whether a loop's only statement can't be the other of two loops that are collapsed.
+fn is_no_inner(stmt: &Stmt, region: &Region<'_>) -> bool
+    ensures { result ≡ not (nests.is_plain_loop (stmt_tree stmt.now)) || rows.some_head_name (rows.changes_in (region_of region.now)) (nests.head_of (stmt_tree stmt.now)) }
+{
+    match stmt {
+        Stmt::Assign { .. } | Stmt::If { .. } => true,
+        Stmt::Do {
+            directive,
+            first,
+            last,
+            step,
+            ..
+        } => match directive {
+            Some(_) => true,
+            None => head_changing(first, last, step, region),
+        },
+    }
+}
+
+#[tactic(auto, using(crate::proofs::Lists::many_alone))]
+fn is_no_nest(region: &Region<'_>) -> bool
+    ensures { result ≡ not (nests.is_one_loop (region_of region.now).body) || rows.some_head_name (rows.changes_in (region_of region.now)) (nests.inner_head (region_of region.now).body) }
+{
+    match region.body {
+        [stmt] => is_no_inner(stmt, region),
+        _ => true,
+    }
+}
+
+/// Whether two loops are to be collapsed that can't be.
+pub(crate) fn is_bad_nest(region: &Region<'_>) -> bool
+    ensures { result ≡ rows.is_bad_nest (region_of region.now) }
+{
+    region.directive.collapse == 2 && is_no_nest(region)
 }
