@@ -1,0 +1,2 @@
+//! Which nodes edges lead to.
+#![tactic(auto)]
