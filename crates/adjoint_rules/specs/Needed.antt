@@ -4,14 +4,13 @@
 --   for an assignment whose target is needed, each name in a subscript of the target is needed,
 --   for an increment whose target is needed, each name in its rest terms is needed.
 -- The first two rules give names from which the others lead on.
-use Rattle.std.specs.Prelude.{◌≡◌, ◌↔◌, ℕ, Bool, true, ◌&&◌, if◌then◌else◌, List, [], ◌∷◌, ◌++◌, filter, flat_map, map, Option, Some, None}
-use Rattle.fl_ast.specs.declared.decl.Decl.{Decl}
+use Rattle.std.specs.Prelude.{◌≡◌, ◌↔◌, ℕ, Bool, true, if◌then◌else◌, List, [], ◌∷◌, ◌++◌, flat_map, map, Option, Some, None}
 use Rattle.fl_ast.specs.declared.stmt.Program.{Program}
 use Rattle.fl_ast.specs.Tree.{Expression, literal, get, minus, binary, power, call, Expressions, no_expressions, expression, Designator, Condition, relation, negation, conjunction, disjunction, Statement, assignment, branch, loop, Statements, no_statements, statement, Arms, no_arms, arm, stmt_trees}
 use Rattle.fl_types.specs.Increment.{Signed, increment_terms}
 use Rattle.fl_types.specs.Sharing.{is_ring_name}
-use Rattle.fl_types.specs.Supported.{is_declared}
-use Rattle.reachability.specs.Reached.{Edge, IsReached}
+use Rattle.reachability.specs.Reached.{Edge}
+use Rattle.reachability.specs.Named.{IsReachedName}
 use Rattle.adjoint_rules.specs.Occurrences.{Factor, operand, either, Occurrence, assignment_occurrences}
 
 -- the names in trees, subscripts too
@@ -107,17 +106,10 @@ abbrev mutual
 abbrev pub kinds_of : Program → (List ℕ → Bool) → Kinds
 kinds_of p active = record { active = active; ring = is_ring_name p.decls }
 
-abbrev pub are_both_declared : List Decl → Edge (List ℕ) → Bool
-are_both_declared decls e = is_declared decls e.tail && is_declared decls e.head
-
-abbrev pub first_needed : Program → (List ℕ → Bool) → List (List ℕ)
-first_needed p active = filter (is_declared p.decls) (read_by_all (kinds_of p active) (stmt_trees p.body))
-
-abbrev pub needs : Program → (List ℕ → Bool) → List (Edge (List ℕ))
-needs p active = filter (are_both_declared p.decls) (restorings_in (kinds_of p active) (stmt_trees p.body))
-
+-- reached from the names of the first two rules over the edges of the last two
 abbrev pub IsNeeded : Program → (List ℕ → Bool) → List ℕ → Type 0
-IsNeeded p active = IsReached (first_needed p active) (needs p active)
+IsNeeded p active =
+    IsReachedName p.decls (read_by_all (kinds_of p active) (stmt_trees p.body)) (restorings_in (kinds_of p active) (stmt_trees p.body))
 
 -- a set that has exactly the needed names
 abbrev pub AreNeeded : Program → (List ℕ → Bool) → (List ℕ → Bool) → Type 0

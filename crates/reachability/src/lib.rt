@@ -1,2 +1,8 @@
-//! Which nodes edges lead to.
+//! Which nodes the edges of a graph lead to, the nodes being numbers or declared names.
 #![tactic(auto)]
+
+mod closing;
+mod naming;
+
+pub use closing::{Link, reach};
+pub use naming::{push_index, push_link, reached_names};
