@@ -1,14 +1,15 @@
 -- The active names: those of the ring kind that data flows to from `wrt`, and from which it flows to `of`. Data flows from each such name on
 -- the right side of an assignment, subscripts aside, to the target. A name reaches itself.
-use Rattle.std.specs.Prelude.{◌≡◌, ◌↔◌, ℕ, Bool, true, not, if◌then◌else◌, List, [], ◌∷◌, ◌++◌, map, find, Option, Some, None}
+use Rattle.std.specs.Prelude.{◌≡◌, ◌↔◌, ℕ, Bool, true, not, if◌then◌else◌, List, [], ◌∷◌, ◌++◌, map, find, Option, Some}
 use Rattle.fl_ast.specs.declared.stmt.Program.{Program}
 use Rattle.fl_ast.specs.Tree.{Expression, literal, get, minus, binary, power, call, Expressions, no_expressions, expression, Statement, assignment, branch, loop, Statements, no_statements, statement, Arms, no_arms, arm, stmt_trees}
 use Rattle.fl_types.specs.Sharing.{has_name, is_ring_name}
 use Rattle.fl_types.specs.Supported.{is_ring_argument}
+use Rattle.reachability.specs.declared.closing.Link.{Link}
 use Rattle.reachability.specs.Reached.{Edge}
 use Rattle.reachability.specs.Named.{IsReachedName}
-use Rattle.activity.specs.declared.active.ActivityError.{ActivityError}
-use Rattle.activity.specs.declared.active.ActivityError.TheVariants.{NotRing, Memory}
+use Rattle.activity.specs.declared.set.ActivityError.{ActivityError}
+use Rattle.activity.specs.declared.set.ActivityError.TheVariants.{NotRing, Memory}
 
 abbrev pub edge_to : List ℕ → List ℕ → Edge (List ℕ)
 edge_to y x = record { tail = x; head = y }
@@ -56,10 +57,18 @@ IsActive p of wrt x = IsReachedName p.decls wrt (program_flows p) x × IsReached
 abbrev pub AreActive : Program → (of wrt : List (List ℕ)) → List (List ℕ) → Type 0
 AreActive p of wrt names = (x : List ℕ) → (has_name x names ≡ true) ↔ IsActive p of wrt x
 
--- the first name, `of` before `wrt`, that isn't an argument of the ring kind
-abbrev pub first_misfit : Program → (of wrt : List (List ℕ)) → Option (List ℕ)
-first_misfit p of wrt = find (λ x. not (is_ring_argument p x)) (of ++ wrt)
+-- the first name that isn't an argument of the ring kind
+abbrev pub misfit_among : Program → List (List ℕ) → Option (List ℕ)
+misfit_among p names = find (λ x. not (is_ring_argument p x)) names
 
-abbrev pub IsCause : Program → (of wrt : List (List ℕ)) → ActivityError → Type 0
-IsCause p of wrt (NotRing name) = first_misfit p of wrt ≡ Some name
-IsCause p of wrt Memory = Unit {0}
+-- `of` before `wrt`
+abbrev pub first_misfit : Program → (of wrt : List (List ℕ)) → Option (List ℕ)
+first_misfit p of wrt = misfit_among p (of ++ wrt)
+
+abbrev pub IsCause : Option (List ℕ) → ActivityError → Type 0
+IsCause misfit (NotRing name) = misfit ≡ Some name
+IsCause misfit Memory = Unit {0}
+
+-- the same of the links that stand for edges
+abbrev pub turned_link : Link → Link
+turned_link l = record { tail = l.head; head = l.tail }

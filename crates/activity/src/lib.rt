@@ -1,7 +1,7 @@
 //! Which names are active: those whose adjoints a reverse part has to compute.
 #![tactic(auto)]
 
-mod active;
-mod flows;
+mod flow;
+mod set;
 
-pub use active::{ActivityError, activity};
+pub use set::{ActivityError, active};

@@ -1,12 +1,12 @@
 -- Marks from lists, and lists from marks.
-use Rattle.std.proofs.Common.{◌≡◌, ◌<◌, ◌↔◌, ◌⊎◌, inl, inr, ℕ, ◌+◌, Bool, true, Some, Result, Ok, Err, IfOk, List, [], ◌∷◌, ◌++◌, length, slice_index_or, slice_set, take, ap, sym, subst, ◌∙◌, arith}
+use Rattle.std.proofs.Common.{All, ◌≡◌, ◌<◌, ◌↔◌, ◌⊎◌, inl, inr, ℕ, ◌+◌, Bool, true, Some, Result, Ok, Err, IfOk, List, [], ◌∷◌, ◌++◌, length, slice_index_or, slice_set, take, ap, sym, subst, ◌∙◌, arith}
 use Rattle.std.proofs.lemmas.List.{take_more, length-set, get_or_default}
 use Rattle.fl_ast.specs.declared.decl.Decl.{Decl}
 use Rattle.reachability.specs.declared.closing.Link.{Link}
-use Rattle.reachability.specs.Reached.{Edge, IsAmong, IsMarked, IsReached, root, onward, Leads}
-use Rattle.reachability.specs.Named.{index_in, indexes_of, links_of, IsNameAt, IsReachedName}
-use Rattle.reachability.proofs.Marks.{marked_here, marked_still, marked_before}
-use Rattle.reachability.proofs.Positions.{to_index, to_name, index_name, index_within}
+use Rattle.reachability.specs.Reached.{Edge, IsAmong, IsMarked, IsReached, root, onward, Leads, AreWithin}
+use Rattle.reachability.specs.Named.{index_in, link_in, indexes_of, links_of, IsNameAt, IsReachedName}
+use Rattle.reachability.proofs.Marks.{among_at, marked_here, marked_still, marked_before}
+use Rattle.reachability.proofs.Positions.{mapped_from, link_parts, to_index, to_name, index_name, index_within}
 
 -- exactly the nodes of a list are marked
 pub record Marked (count : ℕ) (nodes : List ℕ) (marks : List Bool) : Type 0 where
@@ -109,7 +109,7 @@ mapped_roots : {X : Type 0} (P Q : X → Type 0) (L : X → X → Type 0) → ((
 mapped_roots P Q L f x (root _ h) = root x (f x h)
 mapped_roots P Q L f x (onward y _ r l) = onward y x (mapped_roots P Q L f y r) l
 
-some_declaration : (decls : List Decl) (x : List ℕ) (i : ℕ) → index_in decls x ≡ Some i → Decl
+pub some_declaration : (decls : List Decl) (x : List ℕ) (i : ℕ) → index_in decls x ≡ Some i → Decl
 some_declaration [] x i e = absurd (grind (arith, e))
 some_declaration (d ∷ ds) x i e = d
 
@@ -137,3 +137,17 @@ on_if_ok (Err e) f p = tt
 
 pub both_ways : {A B C : Type 0} → A ↔ B → B ↔ C → A ↔ C
 both_ways f g = (λ a. g.0 (f.0 a), λ c. f.1 (g.1 c))
+
+-- ---- within bounds
+
+pub indexes_within : (decls : List Decl) (xs : List (List ℕ)) → All (λ i. i < length decls) (indexes_of decls xs)
+indexes_within decls xs k d h =
+    let m = mapped_from (index_in decls) xs (slice_index_or (indexes_of decls xs) k d) (among_at (indexes_of decls xs) k d h) in
+    index_within decls m.0 (slice_index_or (indexes_of decls xs) k d) (some_declaration decls m.0 (slice_index_or (indexes_of decls xs) k d) m.2) m.2
+
+pub links_within : (decls : List Decl) (es : List (Edge (List ℕ))) → AreWithin (length decls) (links_of decls es)
+links_within decls es k d h =
+    let l = slice_index_or (links_of decls es) k d in
+    let m = mapped_from (link_in decls) es l (among_at (links_of decls es) k d h) in
+    let e = link_parts (index_in decls m.0.tail) (index_in decls m.0.head) l.tail l.head m.2 in
+    (index_within decls m.0.tail l.tail (some_declaration decls m.0.tail l.tail e.0) e.0, index_within decls m.0.head l.head (some_declaration decls m.0.head l.head e.1) e.1)

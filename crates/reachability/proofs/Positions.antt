@@ -96,7 +96,7 @@ link_is : (decls : List Decl) (x y : List ℕ) (i j : ℕ) → index_in decls x 
     → link_in decls (record { tail = x; head = y }) ≡ Some (record { tail = i; head = j })
 link_is decls x y i j e f = rw (e, f) refl
 
-link_parts : (a b : Option ℕ) (i j : ℕ) → link_between a b ≡ Some (record { tail = i; head = j }) → (a ≡ Some i) × (b ≡ Some j)
+pub link_parts : (a b : Option ℕ) (i j : ℕ) → link_between a b ≡ Some (record { tail = i; head = j }) → (a ≡ Some i) × (b ≡ Some j)
 link_parts None b i j e = absurd (grind (arith, e))
 link_parts (Some a) None i j e = absurd (grind (arith, e))
 link_parts (Some a) (Some b) i j e = (ap (tail_of a) e, ap (head_of b) e)

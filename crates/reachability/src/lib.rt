@@ -5,4 +5,4 @@ mod closing;
 mod naming;
 
 pub use closing::{Link, reach};
-pub use naming::{push_index, push_link, reached_names};
+pub use naming::{push_index, push_link, reached_from, reached_names};

@@ -84,3 +84,29 @@ pub fn reached_names(
     reach(alloc, links, &mut marks)?;
     names_at(alloc, decls, marks.as_slice())
 }
+
+fn indexes(alloc: Global, decls: &[Decl], names: &[Name]) -> Result<Items<usize>, Memory>
+    ensures { IfOk result (λ nodes. nodes ≡ indexes_of decls.now names.now) }
+{
+    let mut nodes = Items::new(alloc);
+    for name in names {
+        push_index(decls, name, &mut nodes)?;
+    }
+    Ok(nodes)
+}
+
+/// The names that edges lead to from these names.
+#[tactic(auto, using(crate::proofs::Listed::indexes_within))]
+pub fn reached_from(
+    alloc: Global,
+    decls: &[Decl],
+    roots: &[Name],
+    links: &[Link],
+) -> Result<Items<Name>, Memory>
+    requires { AreWithin (length decls.now) links.now }
+    ensures { (es : List (Edge (List ℕ))) → links.now ≡ links_of decls.now es
+        → IfOk result (λ names. (x : List ℕ) → IsAmong names x ↔ IsReachedName decls.now roots.now es x) }
+{
+    let nodes = indexes(alloc, decls, roots)?;
+    reached_names(alloc, decls, nodes.as_slice(), links)
+}
