@@ -1,5 +1,5 @@
 -- The trees of an adjoint's expressions, with their depths.
-use Rattle.std.specs.Prelude.{ℕ, ◌+◌, max, List, [], ◌∷◌, ◌++◌, Bool}
+use Rattle.std.specs.Prelude.{◌+◌, max, [], ◌∷◌, ◌++◌, Bool}
 use Rattle.fl_ast.specs.declared.kind.BinOp.{BinOp}
 use Rattle.fl_ast.specs.declared.kind.Fun.{Fun}
 use Rattle.fl_ast.specs.declared.adjoint.AExpr.TheVariants.{Lit, Get, Neg, Bin, Pow, Call, Merge}

@@ -1,5 +1,5 @@
 -- Conditions are read exactly, though what a bracket holds may be an expression or a condition.
-use Rattle.std.proofs.Common.{◌≡◌, ℕ, zero, suc, ◌<◌, Bool, true, false, cond, nat_lt, [], ◌∷◌, ◌++◌, Ok, Err, refl, sym, ap, subst, ◌∙◌, ◌⊎◌, inl, inr, append_assoc, arith}
+use Rattle.std.proofs.Common.{◌≡◌, ℕ, zero, suc, Bool, true, false, cond, nat_lt, [], ◌∷◌, ◌++◌, Ok, Err, refl, sym, ap, subst, ◌∙◌, ◌⊎◌, inl, inr, append_assoc, arith}
 use Rattle.tokens.specs.Lexeme.{Lexeme}
 use Rattle.parsing.specs.declared.symbol.Symbol.{Symbol}
 use Rattle.parsing.specs.declared.symbol.Symbol.TheVariants as s
@@ -9,7 +9,7 @@ use Rattle.parsing.specs.Freed.{Freed, Frees, frees}
 use Rattle.parsing.specs.Freed.Freed.{Nothing}
 use Rattle.parsing.specs.Limit.{Limit, allows, less as fewer}
 use Rattle.parsing.specs.Terminal.{same, on, is, marked, reads}
-use Rattle.parsing.specs.Reading.{Lexemes, Outcome, Parser, sees, fault, refuse, ◌>>=◌ as ◌▷◌}
+use Rattle.parsing.specs.Reading.{Lexemes, Outcome, Parser, fault, ◌>>=◌ as ◌▷◌}
 use Rattle.parsing.specs.Grammar.{Grammar, gives, one, ◌or◌, where_, ◌>>=◌ as ◌⨟◌}
 use Rattle.fl_ast.specs.declared.kind.RelOp.TheVariants.{Lt}
 use Rattle.fl_expressions.specs.declared.tree.Measured.{Measured}

@@ -1,3 +1,4 @@
 pub mod Conds
+pub mod Examples
 pub mod Levels
 pub mod ReadableConds

@@ -1,5 +1,5 @@
 -- Conditions of the grammar are readable, and have a byte for each node.
-use Rattle.std.proofs.Common.{◌≡◌, ℕ, zero, suc, ◌+◌, ◌<◌, ◌≤◌, max, Bool, true, ◌&&◌, List, [], ◌∷◌, Option, Some, None, refl, sym, ap, subst, ◌∙◌, inl, inr, arith, false}
+use Rattle.std.proofs.Common.{◌≡◌, ℕ, zero, suc, ◌+◌, ◌<◌, ◌≤◌, max, true, Option, Some, None, refl, sym, ap, subst, ◌∙◌, inl, inr, arith, false}
 use Rattle.std.proofs.lemmas.Bool.Decides.{nat_tests}
 use Rattle.fl_ast.specs.declared.kind.RelOp.{RelOp}
 use Rattle.fl_ast.specs.declared.expr.Expr.{Expr}

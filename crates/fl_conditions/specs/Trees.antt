@@ -1,5 +1,5 @@
 -- The trees of conditions, with how many levels they have beneath their roots.
-use Rattle.std.specs.Prelude.{ℕ, ◌+◌, max, Bool}
+use Rattle.std.specs.Prelude.{◌+◌, max, Bool}
 use Rattle.fl_ast.specs.declared.kind.RelOp.{RelOp}
 use Rattle.fl_ast.specs.declared.expr.Cond.TheVariants.{Rel, Not, And, Or}
 use Rattle.parsing.specs.Limit.{Limit, allows}

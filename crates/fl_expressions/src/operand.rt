@@ -314,7 +314,7 @@ impl<F: Fn(Global, &mut Cursor<'_>, usize, usize) -> Result<Measured, Failure>> 
     }
 
     #[tactic(auto, unfolding(crate::specs::ExprReading::primary))]
-    fn primary(&self, tokens: &mut Cursor<'_>, d: usize) -> Result<Measured, Failure>
+    pub fn primary(&self, tokens: &mut Cursor<'_>, d: usize) -> Result<Measured, Failure>
         requires nests { Nests self.now.brackets (F.pre self.now.expr) (F.post self.now.expr) }
         requires few { d < 2 ^ 32 }
         ensures reads { Reads (spec.primary (nat_lt 0 self.now.brackets) (spec.below self.now.brackets) (Some d) tokens.old) result tokens.new }
