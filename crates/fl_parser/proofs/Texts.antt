@@ -9,17 +9,17 @@ use Rattle.parsing.specs.declared.fault.Cause.{Cause}
 use Rattle.parsing.specs.declared.fault.Cause.TheVariants.{Expected, Deep, Many, Construct, Unknown, Twice, Form}
 use Rattle.parsing.specs.declared.fault.Fault.{Fault}
 use Rattle.parsing.specs.Freed.{Freed, Frees, frees}
-use Rattle.parsing.specs.Freed.Freed.{Nothing, Counts, All}
+use Rattle.parsing.specs.Freed.Freed.{Nothing, Counts, All, Repeats}
 use Rattle.parsing.specs.Limit.{Limit}
 use Rattle.parsing.specs.Reading.{Lexemes}
 use Rattle.parsing.specs.Refusal.{all_of}
 use Rattle.fl_parser.specs.declared.error.ParseError.{ParseError}
 use Rattle.fl_parser.specs.declared.error.ParseError.TheVariants.{Memory}
 use Rattle.fl_parser.specs.Parsed.{error_of, placed, parsed}
-use Rattle.fl_parser.specs.Refuses.{Refuses, RefusedAnyhow, Told, uncounted, unlimited}
-use Rattle.fl_parser.specs.Limits.{Limits, the_limits}
+use Rattle.fl_parser.specs.Refuses.{Refuses, RefusedAnyhow, Told, uncounted, unlimited, repeated}
+use Rattle.fl_statements.specs.Limits.{Limits, the_limits}
 use Rattle.fl_expressions.specs.Wide.{More}
-use Rattle.fl_parser.specs.Wide.{Widens}
+use Rattle.fl_statements.specs.Wide.{Widens}
 use Rattle.fl_parser.specs.UnitGrammar as g
 use Rattle.fl_parser.specs.UnitReading as p
 use Rattle.parsing.proofs.Outcomes.{never, differ}
@@ -29,6 +29,10 @@ use Rattle.std.specs.Prelude.{length}
 use Rattle.tokens.specs.Spelled.{AreSpelled}
 use Rattle.fl_ast.specs.Readable.{IsReadable}
 use Rattle.fl_parser.proofs.Readables.{readable_by_tokens}
+use Rattle.std.specs.Prelude.{nat_lt}
+use Rattle.std.proofs.Common.{Bool, arith}
+use Rattle.std.proofs.lemmas.Bool.Decides.{nat_tests}
+use Rattle.omp_clauses.specs.Once.{Onces}
 use Rattle.fl_parser.proofs.Units.{unit_exact}
 
 same_limit : (cause : Cause) (d : Limit) → Frees Nothing cause d d
@@ -43,56 +47,89 @@ gone l cause d t = record { stays = λ f. differ (frees l cause) t f; goes = λ 
 more : (l : Freed) (b b2 : ℕ) → frees l Deep ≡ true → b < b2 → More l b b2
 more l b b2 t h = record { stays = λ f. differ (frees l Deep) t f; goes = λ _. h }
 
-at_all : (limits : Limits) → Widens Nothing limits limits
-at_all limits = record {
-  brackets = record { stays = λ _. refl; goes = λ h. differ true refl (sym h) };
+same_number : (l : Freed) (b : ℕ) → frees l Deep ≡ false → More l b b
+same_number l b f = record { stays = λ _. refl; goes = λ h. differ (frees l Deep) h f }
+
+same_once : (l : Freed) (once : Bool) → frees l Twice ≡ false → Onces l once once
+same_once l once f = record { stays = λ _. refl; goes = λ h. differ (frees l Twice) h f }
+
+at_all : (limits : Limits) → nat_lt 0 limits.brackets ≡ true → Widens Nothing limits limits
+at_all limits so = record {
+  some = so;
+  brackets = same_number Nothing limits.brackets refl;
   depth = same_limit Deep limits.depth;
+  blocks = same_number Nothing limits.blocks refl;
   statements = same_limit Many limits.statements;
   names = same_limit Many limits.names;
+  once = same_once Nothing limits.once refl;
 }
 
 to_uncounted : Widens Counts the_limits uncounted
 to_uncounted = record {
-  brackets = record { stays = λ _. refl; goes = λ h. differ true refl (sym h) };
+  some = refl;
+  brackets = same_number Counts 256 refl;
   depth = kept Counts Deep (Some 64) refl;
+  blocks = same_number Counts 64 refl;
   statements = gone Counts Many (Some 4096) refl;
   names = gone Counts Many (Some 512) refl;
+  once = same_once Counts true refl;
 }
 
-to_unlimited : (b : ℕ) → 256 < b → Widens All the_limits (unlimited b)
-to_unlimited b h = record {
+to_unlimited : (b n : ℕ) → 256 < b → 64 < n → Widens All the_limits (unlimited b n)
+to_unlimited b n h k = record {
+  some = refl;
   brackets = more All 256 b refl h;
   depth = gone All Deep (Some 64) refl;
+  blocks = more All 64 n refl k;
   statements = gone All Many (Some 4096) refl;
   names = gone All Many (Some 512) refl;
+  once = same_once All true refl;
 }
 
+to_repeated : Widens Repeats the_limits repeated
+to_repeated = record {
+  some = refl;
+  brackets = same_number Repeats 256 refl;
+  depth = kept Repeats Deep (Some 64) refl;
+  blocks = same_number Repeats 64 refl;
+  statements = kept Repeats Many (Some 4096) refl;
+  names = kept Repeats Many (Some 512) refl;
+  once = record { stays = λ h. differ true refl h; goes = λ _. refl };
+}
+
+some_brackets : (b : ℕ) → 256 < b → nat_lt 0 b ≡ true
+some_brackets b h = grind (arith, nat_tests)
+
 reads_limits : Exact Nothing (g.unit the_limits) never (p.unit the_limits) (p.unit the_limits)
-reads_limits = unit_exact Nothing the_limits the_limits (at_all the_limits)
+reads_limits = unit_exact Nothing the_limits the_limits (at_all the_limits refl)
 
 reads_uncounted : Exact Nothing (g.unit uncounted) never (p.unit uncounted) (p.unit uncounted)
-reads_uncounted = unit_exact Nothing uncounted uncounted (at_all uncounted)
+reads_uncounted = unit_exact Nothing uncounted uncounted (at_all uncounted refl)
 
-reads_unlimited : (b : ℕ) → Exact Nothing (g.unit (unlimited b)) never (p.unit (unlimited b)) (p.unit (unlimited b))
-reads_unlimited b = unit_exact Nothing (unlimited b) (unlimited b) (at_all (unlimited b))
+reads_unlimited : (b n : ℕ) → 256 < b → Exact Nothing (g.unit (unlimited b n)) never (p.unit (unlimited b n)) (p.unit (unlimited b n))
+reads_unlimited b n h = unit_exact Nothing (unlimited b n) (unlimited b n) (at_all (unlimited b n) (some_brackets b h))
+
+reads_repeated : Exact Nothing (g.unit repeated) never (p.unit repeated) (p.unit repeated)
+reads_repeated = unit_exact Nothing repeated repeated (at_all repeated refl)
 
 anyhow : (ts : Lexemes) (f : Fault) → all_of (p.unit the_limits ts) ≡ Err f → frees All f.cause ≡ false → RefusedAnyhow ts f.left
-anyhow ts f e c b h = unfreed All Nothing (g.unit the_limits) (g.unit (unlimited b)) never (p.unit the_limits) (p.unit (unlimited b)) (p.unit (unlimited b))
-    (unit_exact All the_limits (unlimited b) (to_unlimited b h)) (reads_unlimited b) ts f e c
+anyhow ts f e c b n h k = unfreed All Nothing (g.unit the_limits) (g.unit (unlimited b n)) never (p.unit the_limits) (p.unit (unlimited b n)) (p.unit (unlimited b n))
+    (unit_exact All the_limits (unlimited b n) (to_unlimited b n h k)) (reads_unlimited b n h) ts f e c
 
 told : (ts : Lexemes) (f : Fault) → all_of (p.unit the_limits ts) ≡ Err f → (cause : Cause) → f.cause ≡ cause → Told cause ts f.left
 told ts f e Expected c = anyhow ts f e (ap (frees All) c)
 told ts f e Deep c = (
   unfreed Counts Nothing (g.unit the_limits) (g.unit uncounted) never (p.unit the_limits) (p.unit uncounted) (p.unit uncounted)
       (unit_exact Counts the_limits uncounted to_uncounted) reads_uncounted ts f e (ap (frees Counts) c),
-  freed All Nothing (g.unit the_limits) (g.unit (unlimited 257)) never (p.unit the_limits) (p.unit (unlimited 257)) (p.unit (unlimited 257))
-      (unit_exact All the_limits (unlimited 257) (to_unlimited 257 (lit< tt))) (reads_unlimited 257) ts f e (ap (frees All) c),
+  freed All Nothing (g.unit the_limits) (g.unit (unlimited 257 65)) never (p.unit the_limits) (p.unit (unlimited 257 65)) (p.unit (unlimited 257 65))
+      (unit_exact All the_limits (unlimited 257 65) (to_unlimited 257 65 (lit< tt) (lit< tt))) (reads_unlimited 257 65 (lit< tt)) ts f e (ap (frees All) c),
 )
 told ts f e Many c = freed Counts Nothing (g.unit the_limits) (g.unit uncounted) never (p.unit the_limits) (p.unit uncounted) (p.unit uncounted)
     (unit_exact Counts the_limits uncounted to_uncounted) reads_uncounted ts f e (ap (frees Counts) c)
 told ts f e Construct c = anyhow ts f e (ap (frees All) c)
 told ts f e Unknown c = anyhow ts f e (ap (frees All) c)
-told ts f e Twice c = anyhow ts f e (ap (frees All) c)
+told ts f e Twice c = freed Repeats Nothing (g.unit the_limits) (g.unit repeated) never (p.unit the_limits) (p.unit repeated) (p.unit repeated)
+    (unit_exact Repeats the_limits repeated to_repeated) reads_repeated ts f e (ap (frees Repeats) c)
 told ts f e Form c = anyhow ts f e (ap (frees All) c)
 
 placed_ok : (text : List ℕ) (tokens : List Token) (o : Result Program Fault) (x : Program) → placed text tokens o ≡ Ok x → o ≡ Ok x

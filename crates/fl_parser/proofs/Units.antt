@@ -1,11 +1,9 @@
 -- A unit is read exactly.
-use Rattle.std.proofs.Common.{◌≡◌, ℕ, ◌+◌, Bool, true, cond, List, [], ◌∷◌, ◌++◌, length, refl, inl, inr, nat_lt}
+use Rattle.std.proofs.Common.{false, ◌≡◌, ℕ, ◌+◌, Bool, true, cond, List, [], ◌∷◌, ◌++◌, length, refl, inl, inr}
 use Rattle.parsing.specs.declared.symbol.Symbol.{Symbol}
 use Rattle.parsing.specs.declared.symbol.Symbol.TheVariants as s
-use Rattle.parsing.specs.declared.cursor.Word.{Word}
-use Rattle.parsing.specs.declared.fault.Cause.TheVariants.{Expected, Many, Deep}
-use Rattle.parsing.specs.Freed.{Freed, Frees}
-use Rattle.parsing.specs.Limit.{allows, less as fewer}
+use Rattle.parsing.specs.declared.fault.Cause.TheVariants.{Expected, Many}
+use Rattle.parsing.specs.Freed.{Freed}
 use Rattle.parsing.specs.Terminal.{same, on, is, reads, names, words}
 use Rattle.parsing.specs.Reading.{Lexemes, sees}
 use Rattle.parsing.specs.Grammar.{Grammar, gives, ◌>>=◌ as ◌⨟◌}
@@ -14,20 +12,21 @@ use Rattle.fl_ast.specs.declared.kind.Kind.TheVariants.{Index}
 use Rattle.fl_ast.specs.declared.kind.Intent.{Intent}
 use Rattle.fl_ast.specs.declared.kind.Intent.TheVariants.{Unsaid, ReadOnly, WriteOnly, Both}
 use Rattle.fl_ast.specs.declared.decl.Decl.{Decl}
-use Rattle.fl_parser.specs.declared.stmt.Counted.{Counted}
 use Rattle.fl_parser.specs.declared.unit.UnitHead.{UnitHead}
 use Rattle.fl_parser.specs.Terminals.{kind_by}
-use Rattle.fl_parser.specs.Limits.{Limits}
-use Rattle.fl_parser.specs.Trees.{declared, assigned, no_stmts, head_of, program, scalar_target, element_target}
-use Rattle.fl_parser.specs.Wide.{Widens}
+use Rattle.fl_statements.specs.Limits.{Limits}
+use Rattle.fl_parser.specs.Trees.{declared, head_of, program}
+use Rattle.fl_statements.specs.Wide.{Widens}
 use Rattle.fl_parser.specs.UnitGrammar as g
 use Rattle.fl_parser.specs.UnitReading as p
-use Rattle.parsing.proofs.Outcomes.{never, sees-never, shrinks_pure, shrinks_seq, Bites, Shrinks, bites_seq}
-use Rattle.parsing.proofs.Exact.{Exact, always_room, room_of, frees_less, Begins, Meets, pure_exact, seq, shrinks_token, either_within}
-use Rattle.parsing.proofs.Rules.{narrow, anywhere, either, optional, loop_exact, begins_seq, begins_or, begins_opens, Opens, opens_or, opens_gives, opens_begins, opens_many, meets_never, gives_meets, meets_or, shrinks_optional, mapped}
-use Rattle.parsing.proofs.OnSymbols.{less, wider, among, meets, begins_in, begins_mark, begins_name, begins_by, begins_same_word, mark_exact, name_exact, word_exact, same_word_exact, by_exact, mark_then, bites_mark, bites_name, apart}
+use Rattle.parsing.proofs.Outcomes.{never, sees-never, shrinks_pure, shrinks_seq, Bites}
+use Rattle.parsing.proofs.Exact.{Exact, always_room, room_of, Begins, Meets, pure_exact, seq, shrinks_token}
+use Rattle.parsing.proofs.Rules.{narrow, anywhere, either, optional, loop_exact, begins_seq, begins_or, begins_opens, Opens, opens_or, opens_gives, opens_begins, opens_many, meets_never, gives_meets, meets_or, mapped}
+use Rattle.parsing.proofs.OnSymbols.{less, wider, among, meets, begins_in, begins_mark, begins_name, begins_by, begins_same_word, mark_exact, name_exact, word_exact, same_word_exact, by_exact, mark_then, bites_mark, apart}
+use Rattle.fl_statements.specs.Trees.{block_from}
+use Rattle.fl_statements.specs.StmtReading.{begins_stmt}
+use Rattle.fl_statements.proofs.StmtExact.{stmts_exact, stmts_open}
 use Rattle.fl_parser.proofs.ExactDims.{shape_exact}
-use Rattle.fl_expressions.proofs.Exprs.{binds, expr_exact, brackets_room, list_exact, list_begins, list_bites}
 
 -- ---- declarations
 
@@ -192,75 +191,6 @@ module _ (l : Freed) (limits wide : Limits) (W : Widens l limits wide) where
   unfolding g.decls
   decls_open = opens_many _ _ (is s.Integer) decl_begins []
 
-  -- ---- statements
-
-  abbrev F : Frees l Deep (fewer limits.depth) (fewer wide.depth)
-  F = frees_less W.depth
-
-  indexed_target_exact : nat_lt 0 limits.brackets ≡ true → (x : Word) → Exact l (g.indexed_target limits x) never (p.indexed_target limits x) (p.indexed_target wide x)
-  unfolding g.indexed_target p.indexed_target
-  indexed_target_exact so x = seq (list_exact l limits.brackets wide.brackets W.brackets (fewer limits.depth) (fewer wide.depth) F so) (λ found. pure_exact (element_target x found)) (λ found. meets_never never _)
-
-  indexed_target_begins : (x : Word) → Begins (g.indexed_target limits x) (is s.Open)
-  unfolding g.indexed_target
-  indexed_target_begins x = begins_seq _ (list_begins l limits.brackets wide.brackets W.brackets (fewer limits.depth) (fewer wide.depth) F)
-
-  indexed_target_bites : nat_lt 0 wide.brackets ≡ true → (x : Word) → Bites (p.indexed_target wide x) (is s.Open)
-  unfolding p.indexed_target
-  indexed_target_bites so x = bites_seq _ _ (is s.Open) (list_bites l limits.brackets wide.brackets W.brackets (fewer limits.depth) (fewer wide.depth) F so) (λ found. shrinks_pure (element_target x found))
-
-  target_exact : Exact l (g.target limits) (is s.Open) (p.target limits) (p.target wide)
-  unfolding g.target g.after_target p.target p.after_target
-  target_exact = seq name_exact
-      (λ x. either_within (nat_lt 0 limits.brackets) (nat_lt 0 wide.brackets) Deep (brackets_room l limits.brackets wide.brackets W.brackets (fewer limits.depth) (fewer wide.depth) F)
-      (λ so. anywhere (indexed_target_exact so x)) (λ _ so. indexed_target_bites so x)
-      (anywhere (pure_exact (scalar_target x))) (indexed_target_begins x) (gives_meets (scalar_target x) (is s.Open) (is s.Open) (λ rest h. h)))
-      (λ x. meets_never (is s.Open) _)
-
-  target_begins : Begins (g.target limits) (on names)
-  unfolding g.target
-  target_begins = begins_seq _ begins_name
-
-  right_side_exact : Exact l (g.right_side limits) never (p.right_side limits) (p.right_side wide)
-  unfolding g.right_side p.right_side
-  right_side_exact = mark_then s.Equals _ _ _ (λ _. seq (expr_exact l limits.brackets wide.brackets W.brackets (fewer limits.depth) (fewer wide.depth) F)
-      (λ e. mark_then s.LineEnd _ _ _ (λ _. pure_exact e))
-      (λ e. meets (same s.LineEnd) binds never _ (begins_seq _ (begins_mark s.LineEnd)) refl refl))
-
-  right_side_begins : Begins (g.right_side limits) (is s.Equals)
-  unfolding g.right_side
-  right_side_begins = begins_seq _ (begins_mark s.Equals)
-
-  assign_exact : (c : Counted) → Exact l (g.assign limits c) never (p.assign limits c) (p.assign wide c)
-  unfolding g.assign p.assign
-  assign_exact c = seq target_exact (λ t. mapped right_side_exact (assigned c t)) (λ t. meets (same s.Equals) (same s.Open) never _ (begins_seq _ right_side_begins) refl refl)
-
-  assign_begins : (c : Counted) → Begins (g.assign limits c) (on names)
-  unfolding g.assign
-  assign_begins c = begins_seq _ target_begins
-
-  after_target_shrinks : (x : Word) → Shrinks (p.after_target wide x)
-  unfolding p.after_target
-  after_target_shrinks x = shrinks_optional (is s.Open) (nat_lt 0 wide.brackets) Deep (p.indexed_target wide x) (scalar_target x) (λ so. indexed_target_bites so x)
-
-  target_bites : Bites (p.target wide) (on names)
-  unfolding p.target
-  target_bites = bites_name _ after_target_shrinks
-
-  assign_bites : (c : Counted) → Bites (p.assign wide c) (on names)
-  unfolding p.assign
-  assign_bites c = bites_seq _ _ (on names) target_bites (λ t. shrinks_seq _ _ (right_side_exact.shrinks) (λ e. shrinks_pure (assigned c t e)))
-
-  stmts_exact : Exact l (g.stmts limits) (on names) (p.stmts limits) (p.stmts wide)
-  unfolding g.stmts p.stmts
-  stmts_exact = loop_exact l (on names) never (on names) (λ c. allows limits.statements (c.count + 1)) (λ c. allows wide.statements (c.count + 1)) Many _ _ _
-      (λ c. room_of W.statements (c.count + 1)) assign_exact assign_begins assign_bites
-      (λ rest h. sees-never rest) (λ rest h. h) (λ rest h. sees-never rest) no_stmts
-
-  stmts_open : Opens (g.stmts limits) (on names)
-  unfolding g.stmts
-  stmts_open = opens_many _ _ (on names) assign_begins no_stmts
-
 -- ---- the unit
 
 another_arg_exact : (l : Freed) (found : List (List ℕ)) → Exact l (g.another_arg found) never (p.another_arg found) (p.another_arg found)
@@ -342,7 +272,7 @@ end_unit_begins bytes = begins_or _ _ (on ends) (begins_in (same s.EndSubroutine
 
 -- what begins the statements of a unit or its end
 abbrev bodies : Symbol → Bool
-bodies a = cond (ends a) true (names a)
+bodies a = cond (ends a) true (begins_stmt a)
 
 -- what begins the part of a unit after its head
 abbrev parts : Symbol → Bool
@@ -354,23 +284,31 @@ unit_head_exact l =
     mark_then s.Subroutine _ _ _ (λ line. seq word_exact (λ x. seq (args_exact l) (λ found. mark_then s.LineEnd _ _ _ (λ _. mapped (implicit_exact l) (λ _. head_of line x found)))
     (λ found. meets (same s.LineEnd) (same s.Open) (is s.Implicit) _ (begins_seq _ (begins_mark s.LineEnd)) refl refl)) (λ x. meets_never (is s.Implicit) _))
 
+body_exact : (l : Freed) (limits wide : Limits) → Widens l limits wide → Exact l (g.body limits) (on begins_stmt) (p.body limits) (p.body wide)
+unfolding g.body p.body
+body_exact l limits wide W = stmts_exact l limits wide W limits.blocks wide.blocks W.blocks false (block_from 0 0)
+
+body_open : (l : Freed) (limits wide : Limits) → Widens l limits wide → Opens (g.body limits) (on begins_stmt)
+unfolding g.body
+body_open l limits wide W = stmts_open l limits wide W limits.blocks wide.blocks W.blocks false (block_from 0 0)
+
 -- A unit is read exactly.
 pub unit_exact : (l : Freed) (limits wide : Limits) → Widens l limits wide → Exact l (g.unit limits) never (p.unit limits) (p.unit wide)
 unfolding g.unit p.unit
 unit_exact l limits wide W =
     seq (unit_head_exact l)
     (λ h. seq (decls_exact l limits wide W)
-    (λ ds. seq (stmts_exact l limits wide W)
+    (λ ds. seq (body_exact l limits wide W)
     (λ body. seq (end_unit_exact l h.name) (λ _. pure_exact (program h ds body)) (λ _. meets_never never _))
-    (λ body. meets ends names never _ (begins_seq _ (end_unit_begins h.name)) refl refl))
+    (λ body. meets ends begins_stmt never _ (begins_seq _ (end_unit_begins h.name)) refl refl))
     (λ ds. meets bodies (same s.Integer) never _ (body_begins h ds) refl refl))
     (λ h. meets parts (same s.Implicit) never _ (parts_begin h) refl refl)
   where
-    body_begins : (h : UnitHead) (ds : List Decl) → Begins (g.stmts limits ⨟ (λ body. g.end_unit h.name ⨟ (λ _. gives (program h ds body)))) (on bodies)
-    body_begins h ds = begins_opens (g.stmts limits) _ (on bodies) (opens_in names bodies _ (stmts_open l limits wide W) (wider names bodies refl refl))
+    body_begins : (h : UnitHead) (ds : List Decl) → Begins (g.body limits ⨟ (λ body. g.end_unit h.name ⨟ (λ _. gives (program h ds body)))) (on bodies)
+    body_begins h ds = begins_opens (g.body limits) _ (on bodies) (opens_in begins_stmt bodies _ (body_open l limits wide W) (wider begins_stmt bodies refl refl))
         (λ body. begins_in ends bodies _ (begins_seq _ (end_unit_begins h.name)) refl refl)
 
-    parts_begin : (h : UnitHead) → Begins (g.decls limits ⨟ (λ ds. g.stmts limits ⨟ (λ body. g.end_unit h.name ⨟ (λ _. gives (program h ds body))))) (on parts)
+    parts_begin : (h : UnitHead) → Begins (g.decls limits ⨟ (λ ds. g.body limits ⨟ (λ body. g.end_unit h.name ⨟ (λ _. gives (program h ds body))))) (on parts)
     parts_begin h = begins_opens (g.decls limits) _ (on parts) (opens_in (same s.Integer) parts _ (decls_open l limits wide W) (wider (same s.Integer) parts refl refl))
-        (λ ds. begins_in bodies parts _ (begins_opens (g.stmts limits) _ (on bodies) (opens_in names bodies _ (stmts_open l limits wide W) (wider names bodies refl refl))
+        (λ ds. begins_in bodies parts _ (begins_opens (g.body limits) _ (on bodies) (opens_in begins_stmt bodies _ (body_open l limits wide W) (wider begins_stmt bodies refl refl))
         (λ body. begins_in ends bodies _ (begins_seq _ (end_unit_begins h.name)) refl refl)) refl refl)

@@ -1,10 +1,8 @@
 pub mod DimGrammar
 pub mod DimReading
-pub mod Limits
 pub mod Parsed
 pub mod Refuses
 pub mod Terminals
 pub mod Trees
 pub mod UnitGrammar
 pub mod UnitReading
-pub mod Wide

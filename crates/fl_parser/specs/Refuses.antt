@@ -1,5 +1,5 @@
 -- What a refusal tells.
-use Rattle.std.specs.Prelude.{◌≡◌, ℕ, ◌<◌, List, map, Some, None}
+use Rattle.std.specs.Prelude.{◌≡◌, ℕ, ◌<◌, true, false, List, map, Some, None}
 use Rattle.tokens.specs.declared.Token.{Token}
 use Rattle.tokens.specs.Lexeme.{lexeme}
 use Rattle.parsing.specs.declared.fault.Cause.{Cause}
@@ -9,29 +9,34 @@ use Rattle.parsing.specs.Reading.{Lexemes}
 use Rattle.parsing.specs.Refusal.{Refused_at, Goes_past}
 use Rattle.fl_parser.specs.declared.error.ParseError.{ParseError}
 use Rattle.fl_parser.specs.Parsed.{error_of}
-use Rattle.fl_parser.specs.Limits.{Limits, the_limits}
+use Rattle.fl_statements.specs.Limits.{Limits, the_limits}
 use Rattle.fl_parser.specs.UnitGrammar.{unit}
 
 -- without a limit on numbers
 abbrev pub uncounted : Limits
-uncounted = record { brackets = 256; depth = Some 64; statements = None; names = None }
+uncounted = record { brackets = 256; depth = Some 64; blocks = 64; statements = None; names = None; once = true }
 
--- without a limit, but for brackets
-abbrev pub unlimited : ℕ → Limits
-unlimited b = record { brackets = b; depth = None; statements = None; names = None }
+-- without a limit, but for brackets and blocks
+abbrev pub unlimited : ℕ → ℕ → Limits
+unlimited b n = record { brackets = b; depth = None; blocks = n; statements = None; names = None; once = true }
+
+-- where names and clauses of a directive may stand again
+abbrev pub repeated : Limits
+repeated = record { brackets = 256; depth = Some 64; blocks = 64; statements = Some 4096; names = Some 512; once = false }
 
 -- nothing goes on there, whatever the limits
 abbrev pub RefusedAnyhow : Lexemes → ℕ → Type 0
-RefusedAnyhow ts left = (b : ℕ) → 256 < b → Refused_at (unit (unlimited b)) ts left
+RefusedAnyhow ts left = (b n : ℕ) → 256 < b → 64 < n → Refused_at (unit (unlimited b n)) ts left
 
--- What a cause says: something goes on with more depth, and not with greater numbers alone; or with greater numbers; or nothing does.
+-- What a cause says: something goes on with more depth, and not with greater numbers alone; or with greater numbers; or with names that
+-- stand twice; or nothing does.
 abbrev pub Told : Cause → Lexemes → ℕ → Type 0
 Told Expected ts left = RefusedAnyhow ts left
-Told Deep ts left = Refused_at (unit uncounted) ts left × Goes_past (unit (unlimited 257)) ts left
+Told Deep ts left = Refused_at (unit uncounted) ts left × Goes_past (unit (unlimited 257 65)) ts left
 Told Many ts left = Goes_past (unit uncounted) ts left
 Told Construct ts left = RefusedAnyhow ts left
 Told Unknown ts left = RefusedAnyhow ts left
-Told Twice ts left = RefusedAnyhow ts left
+Told Twice ts left = Goes_past (unit repeated) ts left
 Told Form ts left = RefusedAnyhow ts left
 
 -- The error has the place and the cause.

@@ -1,5 +1,5 @@
 -- The grammar of a unit.
-use Rattle.std.specs.Prelude.{ℕ, nat_lt, ◌+◌, Bool, true, List, [], ◌∷◌, ◌++◌, length}
+use Rattle.std.specs.Prelude.{false, ℕ, ◌+◌, Bool, true, List, [], ◌∷◌, ◌++◌, length}
 use Rattle.fl_ast.specs.declared.kind.Kind.{Kind}
 use Rattle.fl_ast.specs.declared.kind.Kind.TheVariants.{Index}
 use Rattle.fl_ast.specs.declared.kind.Intent.{Intent}
@@ -7,19 +7,17 @@ use Rattle.fl_ast.specs.declared.kind.Intent.TheVariants.{Unsaid, ReadOnly, Writ
 use Rattle.fl_ast.specs.declared.decl.Decl.{Decl}
 use Rattle.fl_ast.specs.declared.stmt.Program.{Program}
 use Rattle.parsing.specs.declared.symbol.Symbol.TheVariants as s
-use Rattle.parsing.specs.Limit.{allows, less}
+use Rattle.parsing.specs.Limit.{allows}
 use Rattle.parsing.specs.Terminal.{marked, name, word, same_word}
 use Rattle.parsing.specs.Grammar.{Grammar, ◌>>=◌, gives, one, ◌or◌, where_, many}
-use Rattle.parsing.specs.declared.cursor.Word.{Word}
-use Rattle.fl_expressions.specs.declared.tree.Measured.{Measured}
-use Rattle.fl_parser.specs.declared.stmt.Counted.{Counted}
-use Rattle.fl_parser.specs.declared.stmt.TargetPlace.{TargetPlace}
 use Rattle.fl_parser.specs.declared.unit.UnitHead.{UnitHead}
 use Rattle.fl_parser.specs.Terminals.{kind_number}
-use Rattle.fl_parser.specs.Limits.{Limits}
-use Rattle.fl_parser.specs.Trees.{declared, scalar_target, element_target, assigned, no_stmts, head_of, program}
+use Rattle.fl_statements.specs.declared.block.Block.{Block}
+use Rattle.fl_statements.specs.Limits.{Limits}
+use Rattle.fl_statements.specs.Trees.{block_from}
+use Rattle.fl_statements.specs.StmtGrammar.{stmts}
+use Rattle.fl_parser.specs.Trees.{declared, head_of, program}
 use Rattle.fl_parser.specs.DimGrammar.{shape}
-use Rattle.fl_expressions.specs.ExprGrammar.{expr, below, subscripts}
 
 -- ---- declarations
 
@@ -131,39 +129,6 @@ module _ (limits : Limits) where
   unfoldable pub decls : Grammar (List Decl)
   decls = many (λ ds. where_ (may_declare ds) (decl ds)) []
 
-  -- ---- statements
-
-  unfoldable pub indexed_target : Word → Grammar TargetPlace
-  indexed_target x = do
-    found ← subscripts (nat_lt 0 limits.brackets) (below limits.brackets) (less limits.depth)
-    gives (element_target x found)
-
-  unfoldable pub after_target : Word → Grammar TargetPlace
-  after_target x = where_ (nat_lt 0 limits.brackets) (indexed_target x) or gives (scalar_target x)
-
-  -- name [ "(" expr {"," expr} ")" ]; each subscript is an expression of its own
-  unfoldable pub target : Grammar TargetPlace
-  target = do
-    x ← one name
-    after_target x
-
-  unfoldable pub right_side : Grammar Measured
-  right_side = do
-    equals ← one (marked s.Equals)
-    e ← expr limits.brackets (less limits.depth)
-    eol ← one (marked s.LineEnd)
-    gives e
-
-  -- place "=" expr eol
-  unfoldable pub assign : Counted → Grammar Counted
-  assign c = do
-    t ← target
-    e ← right_side
-    gives (assigned c t e)
-
-  unfoldable pub stmts : Grammar Counted
-  stmts = many (λ c. where_ (allows limits.statements (c.count + 1)) (assign c)) no_stmts
-
 -- ---- the unit
 
 -- "," name
@@ -246,10 +211,14 @@ unit_head = do
   said ← implicit
   gives (head_of line x found)
 
+-- the statements of a unit
+unfoldable pub body : Limits → Grammar Block
+body limits = stmts limits limits.blocks false (block_from 0 0)
+
 unfoldable pub unit : Limits → Grammar Program
 unit limits = do
   head ← unit_head
   ds ← decls limits
-  body ← stmts limits
+  b ← body limits
   end ← end_unit head.name
-  gives (program head ds body)
+  gives (program head ds b)

@@ -1,5 +1,5 @@
 -- How a unit is read.
-use Rattle.std.specs.Prelude.{ℕ, nat_lt, ◌+◌, Bool, true, List, [], ◌∷◌, ◌++◌, length}
+use Rattle.std.specs.Prelude.{false, ℕ, ◌+◌, Bool, true, List, [], ◌∷◌, ◌++◌, length}
 use Rattle.fl_ast.specs.declared.kind.Kind.{Kind}
 use Rattle.fl_ast.specs.declared.kind.Kind.TheVariants.{Index}
 use Rattle.fl_ast.specs.declared.kind.Intent.{Intent}
@@ -7,20 +7,18 @@ use Rattle.fl_ast.specs.declared.kind.Intent.TheVariants.{Unsaid, ReadOnly, Writ
 use Rattle.fl_ast.specs.declared.decl.Decl.{Decl}
 use Rattle.fl_ast.specs.declared.stmt.Program.{Program}
 use Rattle.parsing.specs.declared.symbol.Symbol.TheVariants as s
-use Rattle.parsing.specs.declared.fault.Cause.TheVariants.{Expected, Deep, Many}
-use Rattle.parsing.specs.Limit.{allows, less}
+use Rattle.parsing.specs.declared.fault.Cause.TheVariants.{Expected, Many}
+use Rattle.parsing.specs.Limit.{allows}
 use Rattle.parsing.specs.Terminal.{is, on, marked, names, name, words, word, same_word}
-use Rattle.parsing.specs.Reading.{Parser, ◌>>=◌, pure, token, choose, within, loop}
-use Rattle.parsing.specs.declared.cursor.Word.{Word}
-use Rattle.fl_expressions.specs.declared.tree.Measured.{Measured}
-use Rattle.fl_parser.specs.declared.stmt.Counted.{Counted}
-use Rattle.fl_parser.specs.declared.stmt.TargetPlace.{TargetPlace}
+use Rattle.parsing.specs.Reading.{Parser, ◌>>=◌, pure, token, choose, loop}
 use Rattle.fl_parser.specs.declared.unit.UnitHead.{UnitHead}
 use Rattle.fl_parser.specs.Terminals.{kind_number}
-use Rattle.fl_parser.specs.Limits.{Limits}
-use Rattle.fl_parser.specs.Trees.{declared, scalar_target, element_target, assigned, no_stmts, head_of, program}
+use Rattle.fl_statements.specs.declared.block.Block.{Block}
+use Rattle.fl_statements.specs.Limits.{Limits}
+use Rattle.fl_statements.specs.Trees.{block_from}
+use Rattle.fl_statements.specs.StmtReading.{stmts}
+use Rattle.fl_parser.specs.Trees.{declared, head_of, program}
 use Rattle.fl_parser.specs.DimReading.{shape}
-use Rattle.fl_expressions.specs.ExprReading.{expr, below, subscripts}
 
 -- ---- declarations
 
@@ -122,37 +120,6 @@ module _ (limits : Limits) where
   unfoldable pub decls : Parser (List Decl)
   decls = loop (is s.Integer) may_declare Many decl []
 
-  -- ---- statements
-
-  unfoldable pub indexed_target : Word → Parser TargetPlace
-  indexed_target x = do
-    found ← subscripts (nat_lt 0 limits.brackets) (below limits.brackets) (less limits.depth)
-    pure (element_target x found)
-
-  unfoldable pub after_target : Word → Parser TargetPlace
-  after_target x = choose (is s.Open) (within (nat_lt 0 limits.brackets) Deep (indexed_target x)) (pure (scalar_target x))
-
-  unfoldable pub target : Parser TargetPlace
-  target = do
-    x ← token name
-    after_target x
-
-  unfoldable pub right_side : Parser Measured
-  right_side = do
-    equals ← token (marked s.Equals)
-    e ← expr limits.brackets (less limits.depth)
-    eol ← token (marked s.LineEnd)
-    pure e
-
-  unfoldable pub assign : Counted → Parser Counted
-  assign c = do
-    t ← target
-    e ← right_side
-    pure (assigned c t e)
-
-  unfoldable pub stmts : Parser Counted
-  stmts = loop (on names) (λ c. allows limits.statements (c.count + 1)) Many assign no_stmts
-
 -- ---- the unit
 
 -- "," name
@@ -226,10 +193,14 @@ unit_head = do
   said ← implicit
   pure (head_of line x found)
 
+-- the statements of a unit
+unfoldable pub body : Limits → Parser Block
+body limits = stmts limits limits.blocks false (block_from 0 0)
+
 unfoldable pub unit : Limits → Parser Program
 unit limits = do
   head ← unit_head
   ds ← decls limits
-  body ← stmts limits
+  b ← body limits
   end ← end_unit head.name
-  pure (program head ds body)
+  pure (program head ds b)

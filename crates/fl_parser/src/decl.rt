@@ -3,15 +3,15 @@
 ghost use Rattle.std.specs.Prelude.{◌≡◌, ◌+◌, ◌<◌, ◌≤◌, IfOk, length};
 ghost use Rattle.parsing.specs.Code.{Reads};
 ghost use Rattle.parsing.specs.Reading as reading;
-ghost use Rattle.fl_parser.specs.Limits.{limits_of};
+ghost use Rattle.fl_statements.specs.Limits.{limits_of};
 ghost use Rattle.fl_parser.specs.Terminals as terminals;
 ghost use Rattle.fl_parser.specs.Trees as trees;
 ghost use Rattle.fl_parser.specs.UnitReading as spec;
 
 use crate::dims::shape;
-use crate::limit::{Limits, has_room};
 use fl_ast::{Decl, Dim, Intent, Kind, bytes_of};
 use fl_base::{Items, Memory};
+use fl_statements::{Limits, has_room};
 use parsing::{Cause, Cursor, Failure, Symbol, Word};
 use std::alloc::Global;
 

@@ -1,10 +1,12 @@
 //! Refusals and their places.
 
-ghost use Rattle.std.specs.Prelude.{◌≡◌, ◌+◌, ◌<◌, ◌≤◌, ◌-◌, ◌^◌, IfOk, length, slice_get};
+ghost use Rattle.std.specs.Prelude.{◌≡◌, ◌+◌, ◌<◌, ◌≤◌, ◌-◌, ◌^◌, IfOk, IsTrue, length, drop, slice_get};
+ghost use Rattle.fl_statements.specs.Terminals.{is_construct as is_construct_lem};
 ghost use Rattle.tokens.specs.Spans.{Are_spans};
 ghost use Rattle.fl_parser.specs.Parsed as spec;
 
 use fl_base::{Memory, Name};
+use omp_clauses::own_cause;
 use parsing::{Cause, ClauseError, Fault, Symbol, lowered_text, symbol_of};
 use std::alloc::Global;
 use thiserror::Error;
@@ -19,7 +21,7 @@ pub enum ParseError {
     /// Such a token that begins a statement, and is a word of a construct outside the language.
     #[error("construct")]
     Construct { line: u32, which: Name },
-    /// Such a token in a directive. It comes with the directives, and holds no want of memory.
+    /// Such a token at which the directive is refused by itself. It holds no want of memory.
     #[error("clause")]
     Clause(ClauseError),
     /// A token with which a program would be too deep.
@@ -101,7 +103,7 @@ fn begins_line(tokens: &[Token], before: usize) -> bool
 }
 
 fn is_construct(symbol: Symbol) -> bool
-    ensures { result ≡ spec.is_construct symbol }
+    ensures { result ≡ is_construct_lem symbol }
 {
     matches!(symbol, Symbol::Construct | Symbol::Call)
 }
@@ -118,14 +120,95 @@ fn names_construct(text: &[u8], tokens: &[Token], at: usize) -> bool
     }
 }
 
-fn cause_at(text: &[u8], tokens: &[Token], at: usize, found: Cause) -> Cause
+/// How many tokens stand before the line of the token with so many before it.
+fn line_start(tokens: &[Token], at: usize) -> usize
+    ensures { result ≡ spec.line_start tokens.now at }
+{
+    let mut start = 0;
+    for before in 0..at {
+        if is_line_end(tokens, before) {
+            start = before + 1;
+        }
+    }
+    start
+}
+
+/// The tokens with so many before them.
+fn behind(tokens: &[Token], start: usize) -> &[Token]
+    requires { start ≤ length tokens.now }
+    ensures { result.now ≡ drop start tokens.now }
+{
+    &tokens[start..]
+}
+
+fn is_line_end(tokens: &[Token], at: usize) -> bool
+    ensures { result ≡ spec.is_line_end (slice_get tokens.now at) }
+{
+    match token_at(tokens, at) {
+        Some(token) => token.kind == TokenKind::LineEnd,
+        None => false,
+    }
+}
+
+fn is_sentinel(tokens: &[Token], at: usize) -> bool
+    ensures is { result ≡ spec.is_sentinel (slice_get tokens.now at) }
+    ensures inside { IsTrue result → at ≤ length tokens.now }
+{
+    match token_at(tokens, at) {
+        Some(token) => token.kind == TokenKind::Sentinel,
+        None => false,
+    }
+}
+
+/// The cause of the directive that begins with the token with `start` before it, where it is refused by itself at the
+/// token with `at` before it.
+#[tactic(auto, using(crate::proofs::Spans::spans_behind))]
+fn in_directive(
+    alloc: Global,
+    text: &[u8],
+    tokens: &[Token],
+    start: usize,
+    at: usize,
+    found: Cause,
+) -> Result<Cause, Memory>
     requires { Are_spans text.now tokens.now }
-    ensures { result ≡ spec.cause_at text.now tokens.now at found }
+    ensures { IfOk result (λ c. c ≡ spec.in_directive text.now tokens.now start at found) }
+{
+    if !is_sentinel(tokens, start) {
+        return Ok(found);
+    }
+    let own = own_cause(
+        alloc,
+        text,
+        behind(tokens, start),
+        tokens.len().saturating_sub(at),
+    )?;
+    Ok(own.unwrap_or(found))
+}
+
+fn cause_at(
+    alloc: Global,
+    text: &[u8],
+    tokens: &[Token],
+    at: usize,
+    found: Cause,
+) -> Result<Cause, Memory>
+    requires { Are_spans text.now tokens.now }
+    ensures { IfOk result (λ c. c ≡ spec.cause_at text.now tokens.now at found) }
 {
     if begins_line(tokens, at) && names_construct(text, tokens, at) {
-        Cause::Construct
-    } else {
-        found
+        return Ok(Cause::Construct);
+    }
+    match found {
+        Cause::Expected => Ok(in_directive(
+            alloc,
+            text,
+            tokens,
+            line_start(tokens, at),
+            at,
+            found,
+        )?),
+        _ => Ok(found),
     }
 }
 
@@ -154,7 +237,8 @@ fn error_at(
 {
     let Position { line, col } = spot_at(text, tokens, at);
     let word = word_at(alloc, text, tokens, at)?;
-    Ok(match cause_at(text, tokens, at, found) {
+    let cause = cause_at(alloc, text, tokens, at, found)?;
+    Ok(match cause {
         Cause::Expected => ParseError::Expected { line, col },
         Cause::Deep => ParseError::Deep { line },
         Cause::Many => ParseError::Many { line },

@@ -4,8 +4,6 @@
 mod decl;
 mod dims;
 mod error;
-mod limit;
-mod stmt;
 mod text;
 mod unit;
 

@@ -9,16 +9,16 @@ ghost use Rattle.tokens.specs.Spans.{Are_spans};
 ghost use Rattle.tokens.specs.Spelled.{AreSpelled};
 ghost use Rattle.parsing.specs.Refusal.{all_of};
 ghost use Rattle.parsing.specs.Code.{Gives};
-ghost use Rattle.fl_parser.specs.Limits.{limits_of, the_limits};
+ghost use Rattle.fl_statements.specs.Limits.{limits_of, the_limits};
 ghost use Rattle.fl_parser.specs.Parsed.{parsed};
 ghost use Rattle.fl_parser.specs.Refuses.{Refuses};
 ghost use Rattle.fl_parser.specs.UnitGrammar as grammar;
 ghost use Rattle.fl_parser.specs.UnitReading as spec;
 
 use crate::error::{ParseError, error_of};
-use crate::limit::{Limits, PROGRAM};
 use crate::unit::unit;
 use fl_ast::Program;
+use fl_statements::{Limits, PROGRAM};
 use parsing::{Cause, Cursor, Failure};
 use std::alloc::Global;
 use tokens::Token;
@@ -26,6 +26,7 @@ use tokens::Token;
 fn whole(alloc: Global, text: &[u8], tokens: &[Token], limits: Limits) -> Result<Program, Failure>
     requires spans { Are_spans text.now tokens.now }
     requires shallow { limits.depth < 2 ^ 32 }
+    requires few { limits.statements < 2 ^ 32 }
     ensures { Gives (all_of (spec.unit (limits_of limits) (map (lexeme text.now) tokens.now))) result }
 {
     let mut cursor = Cursor::new(text, tokens);

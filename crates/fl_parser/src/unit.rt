@@ -2,14 +2,13 @@
 
 ghost use Rattle.std.specs.Prelude.{◌≡◌, ◌<◌, ◌^◌, ◌++◌, ◌∷◌, [], IfOk};
 ghost use Rattle.parsing.specs.Code.{Reads};
-ghost use Rattle.fl_parser.specs.Limits.{limits_of};
+ghost use Rattle.fl_statements.specs.Limits.{limits_of};
 ghost use Rattle.fl_parser.specs.UnitReading as spec;
 
 use crate::decl::decls;
-use crate::limit::Limits;
-use crate::stmt::stmts;
 use fl_ast::Program;
 use fl_base::{Items, Memory, Name};
+use fl_statements::{Block, Limits, block_from, stmts};
 use parsing::{Cursor, Failure, Symbol};
 use std::alloc::Global;
 
@@ -153,15 +152,27 @@ fn unit_head(alloc: Global, tokens: &mut Cursor<'_>) -> Result<UnitHead, Failure
     Ok(UnitHead { line, name, args })
 }
 
+/// The statements of a unit.
+#[tactic(auto, unfolding(crate::specs::UnitReading::body))]
+fn body(alloc: Global, tokens: &mut Cursor<'_>, limits: Limits) -> Result<Block, Failure>
+    requires shallow { limits.depth < 2 ^ 32 }
+    requires fits { limits.statements < 2 ^ 32 }
+    ensures { Reads (spec.body (limits_of limits) tokens.old) result tokens.new }
+{
+    let start = block_from(alloc, 0, 0);
+    Ok(stmts(alloc, tokens, limits, limits.blocks, false, start)?)
+}
+
 /// A unit.
 #[tactic(auto, unfolding(crate::specs::UnitReading::unit))]
 pub fn unit(alloc: Global, tokens: &mut Cursor<'_>, limits: Limits) -> Result<Program, Failure>
-    requires { limits.depth < 2 ^ 32 }
+    requires shallow { limits.depth < 2 ^ 32 }
+    requires fits { limits.statements < 2 ^ 32 }
     ensures { Reads (spec.unit (limits_of limits) tokens.old) result tokens.new }
 {
     let head = unit_head(alloc, tokens)?;
     let decls = decls(alloc, tokens, limits)?;
-    let body = stmts(alloc, tokens, limits)?.stmts;
+    let body = body(alloc, tokens, limits)?.stmts;
     let _end = end_unit(tokens, &head.name)?;
     Ok(Program {
         line: head.line,

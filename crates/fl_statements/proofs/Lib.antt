@@ -1,5 +1,7 @@
+pub mod Adding
 pub mod AssignExact
 pub mod Guards
 pub mod IfExact
 pub mod Levels
+pub mod ReadableStmts
 pub mod StmtExact

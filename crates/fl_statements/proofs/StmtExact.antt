@@ -1,5 +1,5 @@
 -- Statements are read exactly.
-use Rattle.std.proofs.Common.{◌≡◌, ℕ, zero, suc, ◌+◌, ◌≤◌, Bool, true, false, not, ◌||◌, [], ◌∷◌, length, Some, None, Ok, refl, sym, ap, ◌∙◌, ◌⊎◌, inl, inr, nat_lt, arith}
+use Rattle.std.proofs.Common.{◌≡◌, ℕ, zero, suc, ◌+◌, ◌≤◌, Bool, true, false, not, ◌||◌, [], ◌∷◌, length, Some, None, Ok, refl, sym, ap, ◌∙◌, ◌⊎◌, inl, inr, nat_lt, arith, append_assoc, ◌++◌}
 use Rattle.parsing.specs.declared.symbol.Symbol.{Symbol}
 use Rattle.parsing.specs.declared.symbol.Symbol.TheVariants as s
 use Rattle.parsing.specs.declared.fault.Cause.{Cause}
@@ -8,7 +8,7 @@ use Rattle.parsing.specs.Freed.{Freed, frees}
 use Rattle.parsing.specs.Freed.Freed.{Nothing as Nothing_freed}
 use Rattle.parsing.specs.Limit.{less as fewer}
 use Rattle.parsing.specs.Terminal.{same, on, is, names}
-use Rattle.parsing.specs.Reading.{◌>>=◌ as ◌▷◌, Lexemes, Parser, sees, fault, choose, within, pure}
+use Rattle.parsing.specs.Reading.{◌>>=◌ as ◌▷◌, Lexemes, Parser, sees, fault, choose, within, pure, refuse}
 use Rattle.parsing.specs.Grammar.{Grammar, gives, ◌>>=◌ as ◌⨟◌, ◌or◌, where_}
 use Rattle.fl_statements.specs.declared.block.Awaited.{Awaited}
 use Rattle.fl_statements.specs.declared.block.Awaited.TheVariants.{Nothing, LoopEnd, AtomicEnd}
@@ -25,7 +25,7 @@ use Rattle.fl_statements.specs.StmtReading.{begins_stmt}
 use Rattle.omp_clauses.specs.LineReading as po
 use Rattle.parsing.proofs.Outcomes.{never, differ, which, ok_err, choose_true, choose_false, shrinks_pure, shrinks_seq, Bites, Shrinks, bites_seq}
 use Rattle.parsing.proofs.Exact.{Exact, Room, always_room, frees_less, Begins, Meets, pure_exact, seq, either_within}
-use Rattle.parsing.proofs.Rules.{anywhere, restate, begins_seq, begins_or, begins_where, meets_never, gives_meets, meets_or, mapped}
+use Rattle.parsing.proofs.Rules.{Opens, anywhere, restate, begins_seq, begins_or, begins_where, meets_never, gives_meets, meets_or, mapped}
 use Rattle.parsing.proofs.OnSymbols.{less, among, meets, begins_in, begins_mark, mark_then, bites_mark}
 use Rattle.omp_clauses.proofs.LineExact.{atomic_exact, atomic_begins, atomic_bites as atomic_line_bites, end_parallel_exact, end_atomic_exact, parallel_exact, parallel_begins, parallel_bites}
 use Rattle.fl_expressions.proofs.Exprs.{brackets_room}
@@ -363,6 +363,18 @@ module _ (l : Freed) (limits wide : Limits) (W : Widens l limits wide) where
     unfolding g.block p.block
     block_exact = steps_exact l (on begins_stmt) (on begins_stmt) _ _ _ turn_exact stmt_takes
 
+    stmt_begins : (c : Block) → Begins (g.stmt limits may ig inside c) (on begins_stmt)
+    unfolding g.stmt
+    stmt_begins c = begins_or _ _ (on begins_stmt) (begins_where _ _ _ (begins_in names begins_stmt _ (assign_begins l limits wide W false c) refl refl))
+        (begins_or _ _ (on begins_stmt) (begins_where _ _ _ (begins_where _ _ _ (begins_in (same s.Do) begins_stmt _ (do_begins c) refl refl)))
+        (begins_or _ _ (on begins_stmt) (begins_where _ _ _ (begins_where _ _ _ (begins_in (same s.If) begins_stmt _ (if_begins l limits wide W may may2 ig ip ip2 inner inner_shrinks nests.grows inside c) refl refl)))
+        (begins_in (same s.Sentinel) begins_stmt _ (directive_begins c) refl refl)))
+
+    pub block_opens : (c : Block) → Opens (g.block limits may ig inside c) (on begins_stmt)
+    unfolding g.block
+    block_opens c x us rest (zero, n) = inl n.1
+    block_opens c x us rest (suc n, (y, vs, ws, here, more, e)) = inr (ap (sees (on begins_stmt)) (ap (λ v. v ++ rest) e ∙ append_assoc vs ws rest) ∙ stmt_begins c y vs (ws ++ rest) here)
+
 -- ---- blocks in blocks
 
 same_wide : (limits : Limits) → nat_lt 0 limits.brackets ≡ true → Widens Nothing_freed limits limits
@@ -404,3 +416,8 @@ module _ (l : Freed) (limits wide : Limits) (W : Widens l limits wide) where
     where
       down : More l n n2
       down = record { stays = λ f. let e = R.stays f in omega arith; goes = λ t. let e = R.goes t in omega arith }
+
+  pub stmts_open : (n n2 : ℕ) → More l n n2 → (inside : Bool) (c : Block) → Opens (g.stmts limits n inside c) (on begins_stmt)
+  unfolding g.stmts
+  stmts_open zero n2 R inside c = block_opens Nothing_freed limits limits (same_wide limits W.some) false false (record { grows = λ h. h; lifts = λ _. refl }) (λ w d x us. ⊥) (λ w d. refuse Deep) (λ w d. refuse Deep) (λ no. differ true refl (sym no)) (λ no. differ true refl (sym no)) inside c
+  stmts_open (suc n) n2 R inside c = block_opens Nothing_freed limits limits (same_wide limits W.some) true true always_room (g.stmts limits n) (p.stmts limits n) (p.stmts limits n) (λ _. shrinks_of limits W.some n) (λ _ w d. (shrinks_of limits W.some n w d).shrinks) inside c

@@ -1,5 +1,5 @@
 -- Directives as they are read, and what a refusal tells.
-use Rattle.std.specs.Prelude.{◌≡◌, ℕ, ◌-◌, ◌==◌, Bool, true, false, not, ◌&&◌, List, [], length, map, take, slice_get, Option, Some, None, Result, Ok, Err}
+use Rattle.std.specs.Prelude.{◌≡◌, ℕ, ◌-◌, ◌==◌, Bool, true, false, not, ◌&&◌, List, [], length, map, take, slice_get, if◌then◌else◌, Option, Some, None, Result, Ok, Err}
 use Rattle.std.specs.List.{count_by}
 use Rattle.tokens.specs.declared.Token.{Token}
 use Rattle.tokens.specs.Lexeme.{lexeme}
@@ -13,7 +13,7 @@ use Rattle.parsing.specs.declared.fault.ClauseError.{ClauseError}
 use Rattle.parsing.specs.declared.fault.ClauseError.TheVariants.{Unknown, Twice, Form}
 use Rattle.parsing.specs.Symbol.{symbol_of}
 use Rattle.parsing.specs.Terminal.{is, words}
-use Rattle.parsing.specs.Reading.{Lexemes}
+use Rattle.parsing.specs.Reading.{Lexemes, Outcome}
 use Rattle.parsing.specs.Refusal.{all_of, Refused_at, Goes_past}
 use Rattle.omp_clauses.specs.declared.directive.DirectiveLine.{DirectiveLine}
 use Rattle.omp_clauses.specs.declared.directive.DirectiveLine.TheVariants.{ParallelDo, EndParallelDo, Atomic, EndAtomic}
@@ -56,6 +56,15 @@ cause_by _ false = cause.Form
 -- the cause at the token with so many before it
 abbrev pub cause_at : List ℕ → List Token → ℕ → Cause → Cause
 cause_at text tokens at found = cause_by found (is_outside text (take at tokens) && names_unknown text (slice_get tokens at))
+
+-- the cause of a directive's own refusal, where it is refused with so many tokens left
+abbrev pub cause_if : List ℕ → List Token → ℕ → Outcome DirectiveLine → Option Cause
+cause_if text tokens left (Ok u) = None
+cause_if text tokens left (Err f) = if f.left == left then Some (cause_at text tokens (length tokens - left) f.cause) else None
+
+-- the same of the directive that these tokens begin with
+unfoldable pub own_cause : List ℕ → List Token → ℕ → Option Cause
+own_cause text tokens left = cause_if text tokens left (p.directive_line true (map (lexeme text) tokens))
 
 -- ---- errors
 

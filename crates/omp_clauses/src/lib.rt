@@ -12,5 +12,5 @@ pub use directive::{
     DirectiveLine, atomic, directive_line, end_atomic, end_parallel_do, parallel_do,
 };
 pub use error::cause_at;
-pub use line::read_directive;
+pub use line::{own_cause, read_directive};
 pub use parsing::ClauseError;

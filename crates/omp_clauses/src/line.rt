@@ -10,10 +10,12 @@ ghost use Rattle.parsing.specs.Code.{Gives};
 ghost use Rattle.omp_clauses.specs.declared.directive.DirectiveLine.{DirectiveLine};
 ghost use Rattle.omp_clauses.specs.LineGrammar as grammar;
 ghost use Rattle.omp_clauses.specs.LineReading as spec;
+ghost use Rattle.omp_clauses.specs.Refused as refused;
 ghost use Rattle.omp_clauses.specs.Refused.{directive_read, is_readable_line, Refuses};
 
 use crate::directive::{DirectiveLine, directive_line};
-use crate::error::error_of;
+use crate::error::{cause_at, error_of};
+use fl_base::Memory;
 use parsing::{Cause, ClauseError, Cursor, Failure};
 use std::alloc::Global;
 use tokens::Token;
@@ -40,6 +42,32 @@ fn read(alloc: Global, text: &[u8], tokens: &[Token]) -> Result<DirectiveLine, C
         Ok(line) => Ok(line),
         Err(Failure::Memory) => Err(ClauseError::Memory),
         Err(Failure::Refused(fault)) => Err(error_of(alloc, text, tokens, fault)?),
+    }
+}
+
+/// Why the directive that begins with the first of these tokens is refused at the token from which on so many are left;
+/// none where it isn't refused there. Other tokens may stand behind the directive.
+#[tactic(auto, unfolding(crate::specs::Refused::own_cause))]
+pub fn own_cause(
+    alloc: Global,
+    text: &[u8],
+    tokens: &[Token],
+    left: usize,
+) -> Result<Option<Cause>, Memory>
+    requires { Are_spans text.now tokens.now }
+    ensures { IfOk result (λ c. c ≡ refused.own_cause text.now tokens.now left) }
+{
+    let mut cursor = Cursor::new(text, tokens);
+    match directive_line(alloc, &mut cursor) {
+        Ok(_) => Ok(None),
+        Err(Failure::Memory) => Err(Memory),
+        Err(Failure::Refused(fault)) => {
+            if fault.left != left {
+                return Ok(None);
+            }
+            let at = tokens.len().saturating_sub(left);
+            Ok(Some(cause_at(text, tokens, at, fault.cause)))
+        }
     }
 }
 

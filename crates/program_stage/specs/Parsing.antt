@@ -8,7 +8,7 @@ use Rattle.fl_parser.specs.declared.error.ParseError.TheVariants.{Expected, Cons
 use Rattle.parsing.specs.declared.fault.ClauseError.{ClauseError}
 use Rattle.parsing.specs.declared.fault.ClauseError.TheVariants as clause
 use Rattle.fl_parser.specs.Parsed.{parsed}
-use Rattle.program_stage.specs.Lines.{not_built, refused_line}
+use Rattle.program_stage.specs.Lines.{refused_column, refused_line}
 
 -- of a directive
 abbrev pub say_clause : ClauseError → Saying
@@ -18,11 +18,11 @@ say_clause (clause.Form line) = refused_line line (codes "clause form")
 say_clause clause.Memory = None
 
 abbrev pub say_parse : ParseError → Saying
-say_parse (Expected line col) = not_built
+say_parse (Expected line col) = refused_column line col (codes "syntax")
 say_parse (Construct line word) = refused_line line (codes "construct " ++ word)
 say_parse (Clause error) = say_clause error
-say_parse (Deep line) = not_built
-say_parse (Many line) = not_built
+say_parse (Deep line) = refused_line line (codes "too deep")
+say_parse (Many line) = refused_line line (codes "too many")
 say_parse Memory = None
 
 -- the program of the tokens

@@ -4,8 +4,7 @@ ghost use Rattle.program_stage.specs.Parsing.{say_parse, say_clause, parsed_stag
 ghost use Rattle.tokens.specs.Spans.{Are_spans};
 ghost use Rattle.tokens.specs.Spelled.{AreSpelled};
 
-use crate::line::{refused_line, refused_word};
-use crate::unbuilt::not_built;
+use crate::line::{refused_column, refused_line, refused_word};
 use ending::Early;
 use fl_ast::Program;
 use fl_parser::{ClauseError, ParseError, parse};
@@ -31,9 +30,9 @@ fn parse_refused(alloc: Global, error: ParseError) -> Early
     ensures { IsSaying (say_parse error) result }
 {
     match error {
-        ParseError::Expected { .. } | ParseError::Deep { .. } | ParseError::Many { .. } => {
-            not_built(alloc)
-        }
+        ParseError::Expected { line, col } => refused_column(alloc, line, col, b"syntax"),
+        ParseError::Deep { line } => refused_line(alloc, line, b"too deep"),
+        ParseError::Many { line } => refused_line(alloc, line, b"too many"),
         ParseError::Construct { line, which } => refused_word(alloc, line, b"construct ", &which),
         ParseError::Clause(error) => clause_refused(alloc, error),
         ParseError::Memory => Early::Memory,

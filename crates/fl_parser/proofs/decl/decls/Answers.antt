@@ -2,7 +2,7 @@ use Rattle.std.proofs.Common.{rules, arith}
 use Rattle.std.proofs.lemmas.Grind.{common_steps}
 use Rattle.parsing.specs.declared.symbol.Symbol.TheVariants as s
 use Rattle.parsing.specs.declared.fault.Cause.TheVariants.{Many}
-use Rattle.fl_parser.specs.Limits.{limits_of}
+use Rattle.fl_statements.specs.Limits.{limits_of}
 use Rattle.parsing.specs.Terminal.{is}
 use Rattle.parsing.specs.Reading.{turns}
 use Rattle.fl_parser.specs.UnitReading as spec
