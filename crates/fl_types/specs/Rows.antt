@@ -81,7 +81,7 @@ is_no_terms (Some terms) = false
 -- the assignment is an increment of the name
 abbrev pub is_increment_of : Program → Option (Designator × Expression) → List ℕ → Bool
 is_increment_of p None x = false
-is_increment_of p (Some a) x = bytes_eq x a.0.name && not (is_no_terms (increment_terms (is_ring_name p.decls) a.0 a.1))
+is_increment_of p (Some a) x = not (is_no_terms (increment_terms (is_ring_name p.decls) a.0 a.1)) && bytes_eq a.0.name x
 
 abbrev pub is_name_of : Option (List ℕ) → List ℕ → Bool
 is_name_of None x = false

@@ -3,6 +3,7 @@
 
 mod around;
 mod ends;
+mod error;
 mod inside;
 mod kinds;
 mod loops;
