@@ -2,3 +2,4 @@ pub mod Lists
 pub mod Terms
 pub mod Trees
 pub mod Heads
+pub mod Said
