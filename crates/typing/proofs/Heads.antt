@@ -26,6 +26,10 @@ error_or (Some t) b = refl
 pub head : Program → List Mention → Option TypeError
 head p ms = slice_get (flat_map (faults_at p) ms) 0
 
+pub head_is : (p : Program) (ms : List Mention) → head p ms ≡ slice_get (flat_map (faults_at p) ms) 0
+unfolding head
+head_is p ms = refl
+
 head_joined : (xs ys : List TypeError) → slice_get (xs ++ ys) 0 ≡ or_later (slice_get xs 0) (slice_get ys 0)
 head_joined [] ys = refl
 head_joined (x ∷ xs) ys = refl

@@ -3,3 +3,4 @@ pub mod Terms
 pub mod Trees
 pub mod Heads
 pub mod Said
+pub mod Along
