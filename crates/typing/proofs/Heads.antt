@@ -17,6 +17,10 @@ pub error_none : error None ≡ None
 unfolding error
 error_none = refl
 
+pub error_some : (t : Told) → error (Some t) ≡ Some (error_of t)
+unfolding error
+error_some t = refl
+
 pub error_or : (a b : Option Told) → error (or_later a b) ≡ or_later (error a) (error b)
 unfolding error
 error_or None b = refl

@@ -4,3 +4,4 @@ pub mod Trees
 pub mod Heads
 pub mod Said
 pub mod Along
+pub mod Judged
