@@ -5,3 +5,5 @@ pub mod Heads
 pub mod Said
 pub mod Along
 pub mod Judged
+pub mod Faultless
+pub mod Kinded
