@@ -119,7 +119,7 @@ mutual
       let takes = call_takes p f args t.0 (or_parts (kinds_differ p (a_value (call f args))) _ k.1.clash).0 (or_parts (divides_data p (a_value (call f args))) _ k.1.division).0 in
       (and_from _ _ takes k.0, ends_behind p (a_value (call f args)) ends k.1)
 
-  kinded_subscripts : (p : Program) (s : Surroundings) (ends : List Ending) (es : Expressions) → EndsWell p (m.at_last es ends) → Clean p (m.in_subscripts s ends es) → are_readable es ≡ true
+  pub kinded_subscripts : (p : Program) (s : Surroundings) (ends : List Ending) (es : Expressions) → EndsWell p (m.at_last es ends) → Clean p (m.in_subscripts s ends es) → are_readable es ≡ true
       → (are_well_kinded (names_of p) es ≡ true) × ((list_all is_index_kind (kinds_of_expressions (names_of p) es) ≡ true) × EndsWell p ends)
   kinded_subscripts p s ends no_expressions c h r = (refl, (refl, c))
   kinded_subscripts p s ends (expression a rest) c h r =

@@ -7,3 +7,6 @@ pub mod Along
 pub mod Judged
 pub mod Faultless
 pub mod Kinded
+pub mod Sound
+pub mod Clauses
+pub mod TypedLaws
