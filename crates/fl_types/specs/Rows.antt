@@ -1,5 +1,5 @@
 -- The rules of typing: each says at which names and numbers of a program it is broken. Where two are broken at one, the earlier rule is told.
-use Rattle.std.specs.Prelude.{ℕ, Bool, true, false, not, ◌&&◌, ◌||◌, if◌then◌else◌, nat_eq, nat_le, nat_lt, bytes_eq, List, [], ◌∷◌, ◌++◌, flat_map, slice_get, length, Option, Some, None}
+use Rattle.std.specs.Prelude.{ℕ, Bool, true, false, not, ◌&&◌, ◌||◌, if◌then◌else◌, nat_eq, nat_le, nat_lt, bytes_eq, List, [], ◌∷◌, ◌++◌, flat_map, slice_get, length, Option, Some, None, Result, Ok, Err}
 use Rattle.std.specs.List.{list_any}
 use Rattle.fl_ast.specs.declared.kind.Kind.{Kind}
 use Rattle.fl_ast.specs.declared.kind.Kind.TheVariants.{Index, Ring}
@@ -81,7 +81,7 @@ is_no_terms (Some terms) = false
 -- the assignment is an increment of the name
 abbrev pub is_increment_of : Program → Option (Designator × Expression) → List ℕ → Bool
 is_increment_of p None x = false
-is_increment_of p (Some a) x = bytes_eq x a.0.name && not (is_no_terms (increment_terms (is_ring_name p.decls) a.0 a.1))
+is_increment_of p (Some a) x = not (is_no_terms (increment_terms (is_ring_name p.decls) a.0 a.1)) && bytes_eq a.0.name x
 
 abbrev pub is_name_of : Option (List ℕ) → List ℕ → Bool
 is_name_of None x = false
@@ -339,3 +339,11 @@ faults p = flat_map (faults_at p) (mentions p)
 -- the one that is told
 unfoldable pub first_fault : Program → Option TypeError
 first_fault p = slice_get (faults p) 0
+
+abbrev pub refused_by : Option TypeError → Result (Unit {0}) TypeError
+refused_by None = Ok tt
+refused_by (Some error) = Err error
+
+-- a program is typed where there is none
+unfoldable pub judged : Program → Result (Unit {0}) TypeError
+judged p = refused_by (first_fault p)

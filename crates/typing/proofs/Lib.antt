@@ -1,3 +1,12 @@
 pub mod Lists
 pub mod Terms
 pub mod Trees
+pub mod Heads
+pub mod Said
+pub mod Along
+pub mod Judged
+pub mod Faultless
+pub mod Kinded
+pub mod Sound
+pub mod Clauses
+pub mod TypedLaws

@@ -1,3 +1,4 @@
 pub mod Views
 pub mod Firsts
 pub mod Updates
+pub mod Errors

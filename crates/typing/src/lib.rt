@@ -3,7 +3,9 @@
 
 mod around;
 mod ends;
+mod error;
 mod inside;
+mod judge;
 mod kinds;
 mod loops;
 mod names;
@@ -12,3 +14,5 @@ mod rules;
 mod updates;
 mod walk;
 mod whole;
+
+pub use judge::check;

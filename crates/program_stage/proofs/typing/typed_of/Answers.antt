@@ -1,11 +1,10 @@
-use Rattle.std.proofs.Common.{refl}
-use Rattle.ending.proofs.Follow.{finds, refuses}
+use Rattle.ending.proofs.Follow.{goes_in, ends_in}
 use Rattle.program_stage.proofs.typing.typed_of.Goals as goal
 
-pub returns-in-Ok : goal.returns-in-Ok
+pub returns-in_err-judge : goal.returns-in_err-judge
 unfolding Rattle.program_stage.specs.Typing.typed_stage
-returns-in-Ok c = finds _ _ c.in-Ok.ensures
+returns-in_err-judge c = ends_in c.in_err-judge.ensures c.from_residual.ensures
 
-pub returns-in-Err : goal.returns-in-Err
+pub returns : goal.returns
 unfolding Rattle.program_stage.specs.Typing.typed_stage
-returns-in-Err c = refuses _ _ _ _ refl c.in-Err.ensures c.type_refused.ensures
+returns c = goes_in c.in_ok-judge.ensures c.built_of.ensures
