@@ -1,0 +1,4 @@
+pub mod Layout
+pub mod Rows
+pub mod Text
+pub mod Words
