@@ -11,7 +11,7 @@ use Rattle.fl_ast.specs.declared.adjoint.AStmt.TheVariants as adjoint
 use Rattle.fl_ast.specs.declared.adjoint.AArm.{AArm}
 use Rattle.fl_ast.specs.Tree.{branch, cond_tree, stmt_tree, stmt_trees, arm_tree, arm_trees}
 use Rattle.fl_ast.specs.AdjointTree.{adjoint_branch, astmt_tree, astmt_trees, aarm_tree, aarm_trees}
-use Rattle.fl_printer.specs.Rows.{Row, statement_rows, block_rows, arm_rows, else_rows, else_row, test_row, adjoint_rows, adjoint_block_rows, adjoint_arm_rows, adjoint_else_rows, decl_rows, decl_row}
+use Rattle.fl_printer.specs.Rows.{statement_rows, block_rows, arm_rows, else_rows, else_row, test_row, adjoint_rows, adjoint_block_rows, adjoint_arm_rows, adjoint_else_rows, decl_rows, decl_row}
 use Rattle.fl_printer.specs.Layout.{rows_text}
 use Rattle.fl_printer.proofs.LayoutLaws.{grown, finished, no_rows, two}
 

@@ -1,6 +1,6 @@
 -- The bytes of lines, a token at a time.
-use Rattle.std.proofs.Common.{◌≡◌, ℕ, suc, ◌+◌, ◌-◌, take, Bool, true, false, cond, ◌&&◌, List, [], ◌∷◌, ◌++◌, length, drop, get_or, refl, ap, sym, ◌∙◌, append-nil, append_assoc, arith}
-use Rattle.std.specs.Prelude.{replicate, not, ◌==◌, Option, None}
+use Rattle.std.proofs.Common.{◌≡◌, ℕ, suc, ◌+◌, ◌-◌, take, Bool, true, false, List, [], ◌∷◌, ◌++◌, length, drop, get_or, refl, ap, sym, ◌∙◌, append-nil, append_assoc, arith}
+use Rattle.std.specs.Prelude.{replicate, ◌==◌, Option, None}
 use Rattle.fl_ast.specs.declared.directive.Directive.{Directive}
 use Rattle.std.proofs.lemmas.Bool.Decides.{nat_tests}
 use Rattle.std.proofs.Math.Seq.{take-length}
@@ -8,7 +8,7 @@ use Rattle.fl_lexer.specs.Spelling.{text_of}
 use Rattle.fl_lexer.specs.Printing.{Printed, opening, joint_of, content, printed}
 use Rattle.fl_printer.specs.declared.spaced.Spaced.{Spaced}
 use Rattle.fl_printer.specs.Rows.{Row, statement_row, directive_row, atomic_rows, parallel_rows}
-use Rattle.fl_printer.specs.Layout.{token, width, width_of_all, Laid, at_end, with_token, is_long, is_past, start, indent, later_line, broken, laid, first_line, laid_behind, lines_of, row_lines, rows_text, blank_bytes, blank_if, laid_text, break_text, begun_text}
+use Rattle.fl_printer.specs.Layout.{token, width, Laid, at_end, with_token, indent, broken, first_line, laid_behind, lines_of, row_lines, rows_text, blank_bytes, blank_if, laid_text, break_text, begun_text}
 
 printed_append : (a b : List Printed) → printed (a ++ b) ≡ printed a ++ printed b
 printed_append [] b = refl

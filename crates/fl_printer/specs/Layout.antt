@@ -3,7 +3,6 @@
 -- the row's margin and four blanks, or in a directive with the margin and the sentinel. A sentinel is a first token
 -- where the directive begins.
 use Rattle.std.specs.Prelude.{ℕ, ◌+◌, Bool, true, false, ◌&&◌, nat_lt, if◌then◌else◌, List, [], ◌∷◌, ◌++◌, length, replicate, codes}
-use Rattle.fl_lexer.specs.declared.piece.PieceKind.{PieceKind}
 use Rattle.fl_lexer.specs.declared.piece.PieceKind.TheVariants.{Blank}
 use Rattle.fl_lexer.specs.Pieces.{piece_of}
 use Rattle.fl_lexer.specs.Spelling.{Spelt, spelt, text_of}

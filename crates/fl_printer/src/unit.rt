@@ -1,8 +1,12 @@
 //! Units as texts.
 
-ghost use Rattle.std.specs.Prelude.{◌≡◌, ◌++◌, ◌∷◌, [], OnOk, IfOk};
+ghost use Rattle.std.specs.Prelude.{◌≡◌, ◌++◌, ◌∷◌, [], OnOk, IfOk, true};
 ghost use Rattle.fl_ast.specs.Tree.{program_tree, stmt_trees};
 ghost use Rattle.fl_ast.specs.AdjointTree.{adjoint_tree, astmt_trees};
+ghost use Rattle.fl_ast.specs.Readable.{IsReadable};
+ghost use Rattle.fl_printer.specs.Lexemes.{IsLexedAs};
+ghost use Rattle.fl_printer.specs.ReadableAdjoint.{IsReadableAdjoint};
+ghost use Rattle.fl_printer.specs.Small.{are_small};
 ghost use Rattle.fl_printer.specs.Rows as spec;
 ghost use Rattle.fl_printer.specs.Layout.{rows_text};
 ghost use Rattle.fl_printer.specs.Text.{program_text, adjoint_text};
@@ -154,6 +158,9 @@ fn push_adjoint(alloc: Global, text: &mut Vec<u8>, adjoint: &Adjoint) -> Result<
 /// The text of a program.
 pub fn print(alloc: Global, program: &Program) -> Result<Vec<u8>, Memory>
     ensures text { IfOk result (λ t. t.items ≡ program_text (program_tree program.now)) }
+
+    // The lexer finds the tokens of its rows in it, wherever its lines are broken.
+    ensures lexed { IfOk result (λ t. IsReadable program.now → are_small program.now.decls ≡ true → IsLexedAs t.items (spec.program_rows (program_tree program.now))) }
 {
     let mut text = Vec::new(alloc);
     push_program(alloc, &mut text, program)?;
@@ -163,6 +170,8 @@ pub fn print(alloc: Global, program: &Program) -> Result<Vec<u8>, Memory>
 /// The text of an adjoint: its forward part and then its reverse part.
 pub fn print_adjoint(alloc: Global, adjoint: &Adjoint) -> Result<Vec<u8>, Memory>
     ensures text { IfOk result (λ t. t.items ≡ adjoint_text (adjoint_tree adjoint.now)) }
+    ensures lexed { IfOk result (λ t. IsReadableAdjoint adjoint.now → are_small adjoint.now.decls ≡ true
+        → IsLexedAs t.items (spec.adjoint_unit_rows (adjoint_tree adjoint.now))) }
 {
     let mut text = Vec::new(alloc);
     push_adjoint(alloc, &mut text, adjoint)?;
