@@ -10,16 +10,7 @@ use Rattle.fl_types.specs.Sharing.{is_ring_kind, is_ring_name}
 use Rattle.store_core.specs.declared.layout.Shape.{Shape}
 use Rattle.store_core.specs.Keys.{slot_of, scalar, with_scalars, laid, laid_all, IsApart}
 use Rattle.store_core.proofs.Slots.{slot_found, slot_missing}
-use Rattle.fl_ast.specs.Tree.{Statements}
-use Rattle.meaning.specs.Sites.{Cells, opening_site}
-use Rattle.meaning.specs.Statements.{run_all}
-use Rattle.meaning.specs.Sequential.{are_sequential}
-use Rattle.meaning.proofs.Everywhere.{sequential_agree}
-use Rattle.dual_meaning.specs.declared.runner.RunStop.{RunStop}
-use Rattle.dual_meaning.specs.declared.runner.RunStop.TheVariants as stop
-use Rattle.dual_meaning.specs.Sequentially.{RunsSequentially}
-use Rattle.dual_meaning.specs.Running.{Ran, of_stop}
-use Rattle.resolved.specs.SlotTables.{Names, table_site, kind_or, is_ring_at, is_ring_in, named_kind, kinds_of, names_of}
+use Rattle.resolved.specs.SlotTables.{kind_or, is_ring_at, is_ring_in, named_kind, kinds_of, names_of}
 
 mapped : (f : Shape → Kind) (es : List Shape) (i : ℕ) (e : Shape) → slice_get es i ≡ Some e → slice_get (map f es) i ≡ Some (f e)
 mapped f [] i e h = absurd (cc)
@@ -73,24 +64,3 @@ ring_by_names es ds x = by_slot (slot_of (with_scalars es ds) x) refl
         ap (λ o. is_ring_kind (kind_or o)) (mapped (λ (s : Shape). named_kind ds s.name) (with_scalars es ds) i r.0 r.1)
         ∙ ring_again (is_ring_name ds r.0.name) ∙ ap (is_ring_name ds) (sym r.2)
     by_slot None e = sym (undeclared x ds (apart_all x es (map (λ (d : Decl). scalar d.name) ds) (slot_missing (with_scalars es ds) x e)).1)
-
--- at a program's opening, statements without parallel loops run as in its table
-pub opening_run : (es : List Shape) (ds : List Decl) (pushed : List ℕ → Bool) (body : Statements) (cells : Cells) → are_sequential body ≡ true
-    → (run_all body (opening_site ds es pushed) cells).out ≡ (run_all body (table_site (names_of es ds)) cells).out
-opening_run es ds pushed body cells q = sequential_agree (opening_site ds es pushed) (table_site (names_of es ds)) (record { keys = refl; width = refl; ring = λ x. sym (ring_by_names es ds x) }) body q cells
-
-opened : (es : List Shape) (ds : List Decl) (body stmts : Statements) (names : Names) (old : Cells) (pushed : List ℕ → Bool) → names ≡ names_of es ds → stmts ≡ body → are_sequential body ≡ true
-    → (run_all body (opening_site ds es pushed) old).out ≡ (run_all stmts (table_site names) old).out
-opened es ds body stmts names old pushed n s q =
-    opening_run es ds pushed body old q ∙ ap (λ b. (run_all b (table_site (names_of es ds)) old).out) (sym s) ∙ ap (λ m. (run_all stmts (table_site m) old).out) (sym n)
-
--- a run in the table that ended
-pub ran_ok : (es : List Shape) (ds : List Decl) (body stmts : Statements) (names : Names) (old new : Cells) → names ≡ names_of es ds → stmts ≡ body → are_sequential body ≡ true
-    → (run_all stmts (table_site names) old).out ≡ Ok new → (are_sequential body ≡ true) × ((pushed : List ℕ → Bool) → (run_all body (opening_site ds es pushed) old).out ≡ Ok new)
-ran_ok es ds body stmts names old new n s q e = (q, λ pushed. opened es ds body stmts names old pushed n s q ∙ e)
-
--- and one that stopped
-pub ran_err : (A B : Type 0) (es : List Shape) (ds : List Decl) (body stmts : Statements) (names : Names) (old new : Cells) (e : RunStop) → names ≡ names_of es ds → stmts ≡ body
-    → are_sequential body ≡ true → Ran {A = A} (Err e) new (run_all stmts (table_site names) old).out → RunsSequentially {A = B} es ds body old new (Err (of_stop e))
-ran_err A B es ds body stmts names old new (stop.Trap t) n s q e = (q, λ pushed. opened es ds body stmts names old pushed n s q ∙ e)
-ran_err A B es ds body stmts names old new stop.Memory n s q e = tt

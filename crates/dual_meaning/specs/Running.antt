@@ -1,5 +1,5 @@
 -- How assignments are run: an increment's terms are summed first, and the sum is added to the target.
-use Rattle.std.specs.Prelude.{◌≡◌, ℕ, List, Option, Some, None, Result, Ok, Err, slice_set, ◌+ℤ◌, ◌-ℤ◌, int_div}
+use Rattle.std.specs.Prelude.{◌≡◌, ℕ, suc, ◌*◌, ◌/◌, ◌%◌, List, [], ◌∷◌, Option, Some, None, Result, Ok, Err, slice_set, ◌+ℤ◌, ◌-ℤ◌, int_div}
 use Rattle.ring_core.specs.Index.{IsIndex}
 use Rattle.store_core.specs.Bounds.{clipped}
 use Rattle.fl_ast.specs.declared.kind.BinOp.{BinOp}
@@ -9,27 +9,29 @@ use Rattle.fl_types.specs.declared.increment.IncrementForm.{IncrementForm}
 use Rattle.fl_types.specs.declared.increment.IncrementForm.TheVariants.{Chain, Sum}
 use Rattle.meaning.specs.declared.value.Dual.{Dual}
 use Rattle.meaning.specs.declared.value.Value.{Value}
-use Rattle.meaning.specs.declared.value.Value.TheVariants.{Ring}
+use Rattle.meaning.specs.declared.value.Value.TheVariants.{Index, Ring}
 use Rattle.meaning.specs.declared.value.Cause.{Cause}
 use Rattle.meaning.specs.declared.value.Cause.TheVariants.{Bounds, Unset}
 use Rattle.meaning.specs.declared.value.TrapAt.{TrapAt}
 use Rattle.meaning.specs.declared.value.IterationCount.{IterationCount}
 use Rattle.dual_meaning.specs.declared.evaluator.EvalStop.{EvalStop}
 use Rattle.dual_meaning.specs.declared.evaluator.EvalStop.TheVariants as eval
-use Rattle.dual_meaning.specs.declared.runner.RunStop.{RunStop}
-use Rattle.dual_meaning.specs.declared.runner.RunStop.TheVariants as run
-use Rattle.store_core.specs.declared.layout.LayoutError.{LayoutError}
-use Rattle.store_core.specs.declared.layout.LayoutError.TheVariants as layout_error
-use Rattle.resolved.specs.declared.resolve.ResolveError.{ResolveError}
-use Rattle.resolved.specs.declared.resolve.ResolveError.TheVariants as resolve_error
-use Rattle.dual_meaning.specs.declared.sequential.RunError.{RunError}
-use Rattle.dual_meaning.specs.declared.sequential.RunError.TheVariants as failed
+use Rattle.dual_meaning.specs.declared.statements.RunStop.{RunStop}
+use Rattle.dual_meaning.specs.declared.statements.RunStop.TheVariants as run
+use Rattle.dual_meaning.specs.declared.rounds.Round.{Round}
+use Rattle.store_core.specs.declared.layout.Shape.{Shape}
+use Rattle.fl_types.specs.Nests.{Head}
+use Rattle.resolved.specs.declared.resolved.ResolvedHead.{ResolvedHead}
+use Rattle.resolved.specs.ResolvedExprs.{slot_name, expression_back}
+use Rattle.resolved.specs.ResolvedStmts.{option_back}
 use Rattle.meaning.specs.Values.{dual_add, dual_sub, as_dual}
 use Rattle.meaning.specs.Logs.{Traced, pure, lift, ◌>>=◌}
 use Rattle.meaning.specs.Sites.{Cells, Site}
 use Rattle.meaning.specs.Expressions.{content, value_of}
-use Rattle.meaning.specs.Statements.{put}
+use Rattle.meaning.specs.Statements.{put, value_at, set_at}
+use Rattle.meaning.specs.Stops.{trapped, over_statements}
 use Rattle.dual_meaning.specs.Answers.{location_of}
+use Rattle.dual_meaning.specs.Counted.{Counted, begun, CountedRun}
 
 -- the subscripts, the check of bounds, and the store
 abbrev pub put_by : Site → Cells → Designator → Value → Traced Cause Cells
@@ -88,19 +90,6 @@ pub record IsCounted (t : IterationCount) : Type 0 where
 
 -- ---- answers
 
-abbrev pub of_layout : LayoutError → RunError
-of_layout layout_error.TooManyPlaces = failed.TooManyPlaces
-of_layout layout_error.Memory = failed.Memory
-
-abbrev pub of_resolving : ResolveError → RunError
-of_resolving resolve_error.Unplaced = failed.Unplaced
-of_resolving resolve_error.Parallel = failed.Parallel
-of_resolving resolve_error.Memory = failed.Memory
-
-abbrev pub of_stop : RunStop → RunError
-of_stop (run.Trap t) = failed.Trap t
-of_stop run.Memory = failed.Memory
-
 abbrev pub stop_at : ℕ → EvalStop → RunStop
 stop_at line (eval.Trap c) = run.Trap (record { line = line; cause = c })
 stop_at line eval.Memory = run.Memory
@@ -111,14 +100,85 @@ Sets (Ok _) cells r = r ≡ Ok cells
 Sets (Err (eval.Trap c)) cells r = r ≡ Err c
 Sets (Err eval.Memory) cells r = Unit {0}
 
--- the cells after a run or its trap
-abbrev pub Ran : {A : Type 0} → Result A RunStop → Cells → Result Cells TrapAt → Type 0
-Ran (Ok _) cells r = r ≡ Ok cells
-Ran (Err (run.Trap t)) cells r = r ≡ Err t
-Ran (Err run.Memory) cells r = Unit {0}
-
--- what a step of a run answers
+-- what a step of a run answers, which is no statement instance
 abbrev pub AnswersAt : {A : Type 0} → Result A RunStop → Result A TrapAt → Type 0
 AnswersAt (Ok a) r = r ≡ Ok a
 AnswersAt (Err (run.Trap t)) r = r ≡ Err t
+AnswersAt (Err run.Statements) r = ⊥
 AnswersAt (Err run.Memory) r = Unit {0}
+
+-- the cells after an assignment or its trap
+abbrev pub SetsAt : {A : Type 0} → Result A RunStop → Cells → Result Cells TrapAt → Type 0
+SetsAt (Ok _) cells r = r ≡ Ok cells
+SetsAt (Err (run.Trap t)) cells r = r ≡ Err t
+SetsAt (Err run.Statements) cells r = ⊥
+SetsAt (Err run.Memory) cells r = Unit {0}
+
+-- whether a statement instance could begin, with how many were left before and are left after
+abbrev pub Begins : {A : Type 0} → Result A RunStop → (before after : ℕ) → Type 0
+Begins (Ok _) before after = before ≡ suc after
+Begins (Err (run.Trap t)) before after = ⊥
+Begins (Err run.Statements) before after = (before ≡ 0) × (after ≡ 0)
+Begins (Err run.Memory) before after = ⊥
+
+-- the cells after a run or its stop, with how many statement instances are left
+abbrev pub Ran : {A : Type 0} → Result A RunStop → Cells → ℕ → Counted Cells → Type 0
+Ran (Ok _) cells left r = r ≡ (Ok cells, left)
+Ran (Err (run.Trap t)) cells left r = r ≡ (Err (trapped t), left)
+Ran (Err run.Statements) cells left r = r ≡ (Err over_statements, left)
+Ran (Err run.Memory) cells left r = Unit {0}
+
+-- one more tick, where a statement instance has no room
+abbrev pub over_by : {A : Type 0} → Result A RunStop → ℕ
+over_by (Ok _) = 0
+over_by (Err (run.Trap t)) = 0
+over_by (Err run.Statements) = 1
+over_by (Err run.Memory) = 0
+
+-- ---- loops
+
+-- the head that a resolved one stands for, at its line
+abbrev pub head_back : List Shape → ℕ → ResolvedHead → Head
+head_back shapes line head = record {
+  line = line;
+  var = slot_name shapes head.variable;
+  first = expression_back shapes head.first;
+  last = expression_back shapes head.last;
+  step = option_back shapes head.step;
+}
+
+abbrev pub round_of : Option ℕ → IterationCount → Round
+round_of place turns = record { place = place; turns = turns }
+
+-- a loop's turns, with the place of its variable
+abbrev pub AnswersRound : Result Round RunStop → Option ℕ → Result IterationCount TrapAt → Type 0
+AnswersRound (Ok round) place r = (r ≡ Ok round.turns) × (round.place ≡ place)
+AnswersRound (Err (run.Trap t)) place r = r ≡ Err t
+AnswersRound (Err run.Statements) place r = ⊥
+AnswersRound (Err run.Memory) place r = Unit {0}
+
+-- ---- iterations of a parallel loop, by places
+
+abbrev pub unset_places : List ℕ → Cells → Cells
+unset_places [] cells = cells
+unset_places (p ∷ ps) cells = unset_places ps (slice_set cells p None)
+
+abbrev pub with_round : Round → ℕ → Cells → Cells
+with_round round k cells = set_at round.place (Some (Index (value_at round.turns k))) cells
+
+-- how many iterations there are
+abbrev pub round_count : Round → Option Round → ℕ
+round_count outer None = outer.turns.count
+round_count outer (Some inner) = outer.turns.count * inner.turns.count
+
+abbrev pub with_rounds : Round → Option Round → ℕ → Cells → Cells
+with_rounds outer None k cells = with_round outer k cells
+with_rounds outer (Some inner) k cells = with_round inner (k % inner.turns.count) (with_round outer (k / inner.turns.count) cells)
+
+abbrev pub is_counted_option : Option Round → Type 0
+is_counted_option None = Unit {0}
+is_counted_option (Some inner) = IsCounted inner.turns
+
+-- an iteration from the cells that the one before leaves
+abbrev pub counted_round : List ℕ → Round → Option Round → CountedRun → ℕ → CountedRun
+counted_round privates outer inner body k cells left = begun left (body (with_rounds outer inner k (unset_places privates cells)))

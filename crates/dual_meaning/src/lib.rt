@@ -1,10 +1,13 @@
 //! Programs run over duals, in order on one thread, names being looked up once.
 #![tactic(auto)]
 
+mod assignment;
+mod bounds;
 mod evaluator;
-mod runner;
-mod sequential;
+mod privates;
+mod rounds;
+mod statements;
 
 pub use evaluator::{EvalStop, evaluate, holds};
-pub use runner::{RunStop, run_statements};
-pub use sequential::{RunError, run_sequential};
+pub use rounds::Round;
+pub use statements::{Progress, RunStop, run_statements};

@@ -16,7 +16,7 @@ use Rattle.parsing.specs.Grammar.{one}
 use Rattle.fl_parser.specs.Terminals.{bound_number, bound_sign}
 use Rattle.fl_parser.specs.Trees.{term_of, bound_of, dim_of}
 use Rattle.fl_parser.specs.DimGrammar as g
-use Rattle.fl_parser.proofs.Holding.{Holds, holds_bind, holds_gives, holds_many, holds_any, holds_name}
+use Rattle.fl_expressions.proofs.Holding.{Holds, holds_bind, holds_gives, holds_many, holds_any, holds_name}
 
 both : (a b : Bool) → a ≡ true → b ≡ true → (a && b) ≡ true
 both a b h k = rw (h, k) refl

@@ -18,7 +18,8 @@ use Rattle.fl_parser.specs.declared.error.ParseError.TheVariants.{Memory}
 use Rattle.fl_parser.specs.Parsed.{error_of, placed, parsed}
 use Rattle.fl_parser.specs.Refuses.{Refuses, RefusedAnyhow, Told, uncounted, unlimited}
 use Rattle.fl_parser.specs.Limits.{Limits, the_limits}
-use Rattle.fl_parser.specs.Wide.{More, Widens}
+use Rattle.fl_expressions.specs.Wide.{More}
+use Rattle.fl_parser.specs.Wide.{Widens}
 use Rattle.fl_parser.specs.UnitGrammar as g
 use Rattle.fl_parser.specs.UnitReading as p
 use Rattle.parsing.proofs.Outcomes.{never, differ}

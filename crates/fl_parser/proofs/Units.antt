@@ -27,7 +27,7 @@ use Rattle.parsing.proofs.Exact.{Exact, always_room, room_of, frees_less, Begins
 use Rattle.parsing.proofs.Rules.{narrow, anywhere, either, optional, loop_exact, begins_seq, begins_or, begins_opens, Opens, opens_or, opens_gives, opens_begins, opens_many, meets_never, gives_meets, meets_or, shrinks_optional, mapped}
 use Rattle.parsing.proofs.OnSymbols.{less, wider, among, meets, begins_in, begins_mark, begins_name, begins_by, begins_same_word, mark_exact, name_exact, word_exact, same_word_exact, by_exact, mark_then, bites_mark, bites_name, apart}
 use Rattle.fl_parser.proofs.ExactDims.{shape_exact}
-use Rattle.fl_parser.proofs.Exprs.{binds, expr_exact, brackets_room, list_exact, list_begins, list_bites}
+use Rattle.fl_expressions.proofs.Exprs.{binds, expr_exact, brackets_room, list_exact, list_begins, list_bites}
 
 -- ---- declarations
 

@@ -1,9 +1,6 @@
 pub mod DimGrammar
 pub mod DimReading
-pub mod ExprGrammar
-pub mod ExprReading
 pub mod Limits
-pub mod Nests
 pub mod Parsed
 pub mod Refuses
 pub mod Terminals

@@ -11,7 +11,7 @@ use Rattle.parsing.specs.Limit.{allows, less}
 use Rattle.parsing.specs.Terminal.{marked, name, word, same_word}
 use Rattle.parsing.specs.Grammar.{Grammar, ◌>>=◌, gives, one, ◌or◌, where_, many}
 use Rattle.parsing.specs.declared.cursor.Word.{Word}
-use Rattle.fl_parser.specs.declared.tree.Measured.{Measured}
+use Rattle.fl_expressions.specs.declared.tree.Measured.{Measured}
 use Rattle.fl_parser.specs.declared.stmt.Counted.{Counted}
 use Rattle.fl_parser.specs.declared.stmt.TargetPlace.{TargetPlace}
 use Rattle.fl_parser.specs.declared.unit.UnitHead.{UnitHead}
@@ -19,7 +19,7 @@ use Rattle.fl_parser.specs.Terminals.{kind_number}
 use Rattle.fl_parser.specs.Limits.{Limits}
 use Rattle.fl_parser.specs.Trees.{declared, scalar_target, element_target, assigned, no_stmts, head_of, program}
 use Rattle.fl_parser.specs.DimGrammar.{shape}
-use Rattle.fl_parser.specs.ExprGrammar.{expr, below, subscripts}
+use Rattle.fl_expressions.specs.ExprGrammar.{expr, below, subscripts}
 
 -- ---- declarations
 

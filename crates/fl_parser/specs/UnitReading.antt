@@ -12,7 +12,7 @@ use Rattle.parsing.specs.Limit.{allows, less}
 use Rattle.parsing.specs.Terminal.{is, on, marked, names, name, words, word, same_word}
 use Rattle.parsing.specs.Reading.{Parser, ◌>>=◌, pure, token, choose, within, loop}
 use Rattle.parsing.specs.declared.cursor.Word.{Word}
-use Rattle.fl_parser.specs.declared.tree.Measured.{Measured}
+use Rattle.fl_expressions.specs.declared.tree.Measured.{Measured}
 use Rattle.fl_parser.specs.declared.stmt.Counted.{Counted}
 use Rattle.fl_parser.specs.declared.stmt.TargetPlace.{TargetPlace}
 use Rattle.fl_parser.specs.declared.unit.UnitHead.{UnitHead}
@@ -20,7 +20,7 @@ use Rattle.fl_parser.specs.Terminals.{kind_number}
 use Rattle.fl_parser.specs.Limits.{Limits}
 use Rattle.fl_parser.specs.Trees.{declared, scalar_target, element_target, assigned, no_stmts, head_of, program}
 use Rattle.fl_parser.specs.DimReading.{shape}
-use Rattle.fl_parser.specs.ExprReading.{expr, below, subscripts}
+use Rattle.fl_expressions.specs.ExprReading.{expr, below, subscripts}
 
 -- ---- declarations
 

@@ -4,12 +4,9 @@
 mod decl;
 mod dims;
 mod error;
-mod expr;
 mod limit;
-mod operand;
 mod stmt;
 mod text;
-mod tree;
 mod unit;
 
 pub use error::ParseError;

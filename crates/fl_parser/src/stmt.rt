@@ -6,11 +6,10 @@ ghost use Rattle.fl_parser.specs.Limits.{limits_of};
 ghost use Rattle.fl_parser.specs.Trees as trees;
 ghost use Rattle.fl_parser.specs.UnitReading as spec;
 
-use crate::expr::{expr, subscripts};
 use crate::limit::{Limits, has_room};
-use crate::tree::{Listed, Measured};
 use fl_ast::{Place, Stmt};
 use fl_base::{Items, Memory};
+use fl_expressions::{Listed, Measured, expr, subscripts};
 use parsing::{Cause, Cursor, Failure, Symbol, Word};
 use std::alloc::Global;
 

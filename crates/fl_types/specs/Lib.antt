@@ -6,3 +6,6 @@ pub mod Sharing
 pub mod Nests
 pub mod Accesses
 pub mod Kinds
+pub mod WellTyped
+pub mod Mentions
+pub mod Rows

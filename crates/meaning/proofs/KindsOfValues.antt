@@ -42,7 +42,7 @@ HaveKinds (k ∷ ks) (v ∷ vs) = HasKind k v × HaveKinds ks vs
 
 -- ---- index numbers
 
-abbrev IndexFits : Result ℤ IndexTrap → Type 0
+abbrev pub IndexFits : Result ℤ IndexTrap → Type 0
 IndexFits (Ok z) = IsIndex z
 IndexFits (Err t) = Unit {0}
 
@@ -50,7 +50,7 @@ of_index_has : (r : Result ℤ IndexTrap) → IndexFits r → FoundHas kind.Inde
 of_index_has (Ok z) h = h
 of_index_has (Err t) h = tt
 
-fitted_fits : (z : ℤ) → IndexFits (exact_index z)
+pub fitted_fits : (z : ℤ) → IndexFits (exact_index z)
 unfolding exact_index
 fitted_fits z = by_test (fits_index z) refl
   where
@@ -66,7 +66,7 @@ unless_fits (pos zero) r h = tt
 unless_fits (pos (suc n)) r h = h
 unless_fits (negsuc n) r h = h
 
-div_fits : (a b : ℤ) → IndexFits (index_div a b)
+pub div_fits : (a b : ℤ) → IndexFits (index_div a b)
 unfolding index_div
 div_fits a b = unless_fits b (exact_index (int_div a b)) (fitted_fits (int_div a b))
 
@@ -87,7 +87,7 @@ rem_fits (pos a) (negsuc b) h = let i : a < 2147483648 = grind (arith, nat_tests
 rem_fits (negsuc a) (pos b) h = neg_fits (suc a % b) (let i : a < 2147483648 = grind (arith, nat_tests) in let e = mod_le (suc a) b in omega arith)
 rem_fits (negsuc a) (negsuc b) h = neg_fits (suc a % suc b) (let i : a < 2147483648 = grind (arith, nat_tests) in let e = mod_le (suc a) (suc b) in omega arith)
 
-index_rem_fits : (a b : ℤ) → IsIndex a → IndexFits (index_rem a b)
+pub index_rem_fits : (a b : ℤ) → IsIndex a → IndexFits (index_rem a b)
 unfolding index_rem
 index_rem_fits a b h = unless_fits b (Ok (int_rem a b)) (rem_fits a b h)
 
@@ -99,7 +99,7 @@ index_has Div a b = of_index_has (index_div a b) (div_fits a b)
 
 -- ---- words
 
-below : (x : ℕ) → x % 2 ^ 64 < 2 ^ 64
+pub below : (x : ℕ) → x % 2 ^ 64 < 2 ^ 64
 below x = omega arith
 
 ring_has : (op : BinOp) (a b : Dual) → FoundHas kind.Ring (ring_result op a b)
@@ -108,7 +108,7 @@ ring_has Sub a b = below (a.value + 18446744073709551615 * b.value)
 ring_has Mul a b = below (a.value * b.value)
 ring_has Div a b = tt
 
-pow_below : (d : Dual) (n : ℕ) → (dual_pow d n).value < 2 ^ 64
+pub pow_below : (d : Dual) (n : ℕ) → (dual_pow d n).value < 2 ^ 64
 pow_below d zero = omega arith
 pow_below d (suc n) = below ((dual_pow d n).value * d.value)
 

@@ -76,7 +76,7 @@ record Makes (a b : Touch) (c : Clash) : Type 0 where
   pub rises : c.first < c.second
   pub kinds : clashes a.kind b.kind ≡ true
 
-turned : (k l : AccessKind) → clashes k l ≡ true → clashes l k ≡ true
+pub turned : (k l : AccessKind) → clashes k l ≡ true → clashes l k ≡ true
 turned Write Write h = refl
 turned Write Update h = refl
 turned Write Read h = refl

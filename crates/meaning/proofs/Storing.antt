@@ -15,7 +15,7 @@ use Rattle.fl_types.specs.declared.sharing.Sharing.TheVariants.{Shared, Private,
 use Rattle.fl_types.specs.Sharing.{has_name, varies_in, assigns, assigns_in, assigns_in_arms, sharing_in, is_private}
 use Rattle.store_core.specs.Keys.{same_key, first_at}
 use Rattle.store_core.specs.Scopes.{scopes, scopes_in, scopes_in_arms}
-use Rattle.store_core.specs.Scopes.{is_private as is_listed_private}
+use Rattle.store_core.specs.Scopes.{is_listed_private}
 use Rattle.meaning.specs.declared.value.Dual.{Dual}
 use Rattle.meaning.specs.declared.value.Value.{Value}
 use Rattle.meaning.specs.declared.value.Value.TheVariants.{Index, Ring}

@@ -10,10 +10,10 @@ use Rattle.omp_clauses.specs.Once.{Onces}
 use Rattle.omp_clauses.specs.ClauseReading.{goes_on}
 use Rattle.omp_clauses.specs.LineGrammar as g
 use Rattle.omp_clauses.specs.LineReading as p
-use Rattle.parsing.proofs.Outcomes.{never}
-use Rattle.parsing.proofs.Exact.{Exact, Begins, pure_exact, seq}
+use Rattle.parsing.proofs.Outcomes.{never, shrinks_pure, shrinks_seq, Bites}
+use Rattle.parsing.proofs.Exact.{Exact, Begins, pure_exact, seq, shrinks_token}
 use Rattle.parsing.proofs.Rules.{either, mapped, begins_seq, begins_or}
-use Rattle.parsing.proofs.OnSymbols.{among, meets, begins_in, begins_mark, mark_exact, mark_then}
+use Rattle.parsing.proofs.OnSymbols.{among, meets, begins_in, begins_mark, mark_exact, mark_then, bites_mark}
 use Rattle.omp_clauses.proofs.ClauseExact.{clauses_exact}
 
 after_atomic_exact : (l : Freed) → Exact l g.after_atomic never p.after_atomic p.after_atomic
@@ -29,6 +29,10 @@ atomic_exact l = mark_then s.Atomic _ _ _ (λ _. after_atomic_exact l)
 pub atomic_begins : Begins g.atomic (is s.Atomic)
 unfolding g.atomic
 atomic_begins = begins_seq _ (begins_mark s.Atomic)
+
+pub atomic_bites : (l : Freed) → Bites p.atomic (is s.Atomic)
+unfolding p.atomic
+atomic_bites l = bites_mark s.Atomic _ (λ _. (after_atomic_exact l).shrinks)
 
 atomic_line_exact : (l : Freed) → Exact l g.atomic_line never p.atomic_line p.atomic_line
 unfolding g.atomic_line p.atomic_line
@@ -82,6 +86,11 @@ module _ (l : Freed) (once wide : Bool) (O : Onces l once wide) where
   pub parallel_begins : (line : ℕ) → Begins (g.parallel_do once line) (is s.Parallel)
   unfolding g.parallel_do
   parallel_begins line = begins_seq _ (begins_mark s.Parallel)
+
+  pub parallel_bites : (line : ℕ) → Bites (p.parallel_do wide line) (is s.Parallel)
+  unfolding p.parallel_do
+  parallel_bites line = bites_mark s.Parallel _ (λ _. shrinks_seq _ _ (shrinks_token _) (λ _. shrinks_seq _ _ ((clauses_exact l once wide O (nothing line)).shrinks)
+      (λ found. shrinks_seq _ _ (shrinks_token _) (λ _. shrinks_pure found.directive))))
 
   loop_line_exact : (line : ℕ) → Exact l (g.loop_line once line) never (p.loop_line once line) (p.loop_line wide line)
   unfolding g.loop_line p.loop_line

@@ -9,13 +9,12 @@ use Rattle.store_core.specs.declared.layout.Shape.{Shape}
 use Rattle.store_core.specs.declared.values.Entry.{Entry}
 use Rattle.store_core.specs.Keys.{keys_of, with_scalars}
 use Rattle.store_core.specs.Places.{shapes_of}
-use Rattle.meaning.specs.Sequential.{are_sequential}
 use Rattle.resolved.specs.declared.resolved.ResolvedStmt.{ResolvedStmt}
 use Rattle.resolved.specs.SlotTables.{Names}
 use Rattle.resolved.specs.ResolvedStmts.{statement_back, statements_back, are_fit, are_statements_placed}
 use Rattle.adjoint_meaning.proofs.Whole.{names_are_scalars}
 use Rattle.one_thread.specs.Bodies.{IsBodyOf}
-use Rattle.one_thread.proofs.Placed.{all_placed, all_sequential, same_lists}
+use Rattle.one_thread.proofs.Placed.{all_placed, same_lists}
 
 -- none of its names is without a slot
 pub never_unplaced : (p q : Program) (values : List Entry) (es : List Shape) (stmts : List Stmt) → q ≡ p → is_supported p ≡ true → es ≡ shapes_of p values → stmts ≡ q.body
@@ -23,12 +22,6 @@ pub never_unplaced : (p q : Program) (values : List Entry) (es : List Shape) (st
 never_unplaced p q values es stmts e h l s f =
     let body : stmts ≡ p.body = s ∙ ap (λ (x : Program). x.body) e in
     let g : true ≡ false = sym (all_placed p values h) ∙ (ap (λ (x : List Stmt). are_statements_placed (shapes_of p values) (stmt_trees x)) (sym body) ∙ (ap (λ (x : List Shape). are_statements_placed x (stmt_trees stmts)) (sym l) ∙ f)) in cc
-
--- and none of its loops is parallel
-pub never_parallel : (p q : Program) (stmts : List Stmt) → q ≡ p → is_supported p ≡ true → stmts ≡ q.body → are_sequential (stmt_trees stmts) ≡ false → ⊥
-never_parallel p q stmts e h s f =
-    let body : stmts ≡ p.body = s ∙ ap (λ (x : Program). x.body) e in
-    let g : true ≡ false = sym (all_sequential p h) ∙ (ap (λ (x : List Stmt). are_sequential (stmt_trees x)) (sym body) ∙ f) in cc
 
 -- its places aren't too many, since they are the layout's
 pub never_many : (p q : Program) (values : List Entry) (es : List Shape) (ds : List Decl) → q ≡ p → is_supported p ≡ true → es ≡ shapes_of p values → ds ≡ q.decls → length (keys_of es) ≤ 2 ^ 21

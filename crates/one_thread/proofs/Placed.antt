@@ -1,4 +1,4 @@
--- All names of a supported program have slots, and it has no parallel loop.
+-- All names of a supported program have slots.
 use Rattle.std.proofs.Common.{◌≡◌, ℕ, suc, Bool, true, false, cond, List, [], ◌∷◌, Option, Some, None, option_map, refl, sym, ap, ◌∙◌, bytes_eq}
 use Rattle.std.specs.Prelude.{◌||◌, not, is_some}
 use Rattle.std.proofs.lemmas.Bool.{and_parts, and_from}
@@ -11,7 +11,6 @@ use Rattle.store_core.specs.declared.layout.Shape.{Shape}
 use Rattle.store_core.specs.declared.values.Entry.{Entry}
 use Rattle.store_core.specs.Keys.{slot_of}
 use Rattle.store_core.specs.Places.{shapes_of}
-use Rattle.meaning.specs.Sequential.{is_sequential, are_sequential}
 use Rattle.resolved.specs.ResolvedExprs.{is_placed, are_placed}
 use Rattle.resolved.specs.ResolvedStmts.{is_statement_placed, are_statements_placed}
 use Rattle.adjoint_meaning.proofs.Layouts.{is_named, parts, named}
@@ -66,19 +65,6 @@ placed_body ds es f (s ∷ body) h =
 pub all_placed : (p : Program) (values : List Entry) → is_supported p ≡ true → are_statements_placed (shapes_of p values) (stmt_trees p.body) ≡ true
 all_placed p values h =
     let k = parts p h in placed_body p.decls (shapes_of p values) (λ x d. named_slot (shapes_of p values) x (named p values k x d)) p.body k.body
-
-sequential_statement : (ds : List Decl) (s : Statement) → is_supported_statement ds s ≡ true → is_sequential s ≡ true
-sequential_statement ds (assignment line atomic target e) h = refl
-sequential_statement ds (branch line arms other) h = cc
-sequential_statement ds (loop line number directive var first last step body) h = cc
-
-sequential_body : (ds : List Decl) (body : List Stmt) → is_supported_body ds body ≡ true → are_sequential (stmt_trees body) ≡ true
-sequential_body ds [] h = refl
-sequential_body ds (s ∷ body) h =
-    let p = and_parts (is_supported_statement ds (stmt_tree s)) (is_supported_body ds body) h in and_from _ _ (sequential_statement ds (stmt_tree s) p.0) (sequential_body ds body p.1)
-
-pub all_sequential : (p : Program) → is_supported p ≡ true → are_sequential (stmt_trees p.body) ≡ true
-all_sequential p h = sequential_body p.decls p.body (parts p h).body
 
 list_of : Statements → List Statement
 list_of no_statements = []

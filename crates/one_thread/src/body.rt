@@ -44,7 +44,6 @@ fn stmts_of(
         Ok(stmts) => Ok(stmts),
         Err(ResolveError::Memory) => Err(Memory),
         Err(ResolveError::Unplaced) => unreachable!(),
-        Err(ResolveError::Parallel) => unreachable!(),
     }
 }
 

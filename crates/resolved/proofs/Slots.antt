@@ -1,16 +1,23 @@
 -- The name of the slot that was found for a name is that name.
 use Rattle.std.specs.Prelude.{◌≡◌, ℕ, zero, suc, ◌<◌, length, Bool, true, false, cond, List, [], ◌∷◌, Option, Some, None, option_map, bytes_eq, refl}
-use Rattle.std.proofs.Common.{ap, sym, ◌∙◌, subst, arith}
+use Rattle.std.proofs.Common.{ap, sym, ◌∙◌, subst, arith, rules}
 use Rattle.std.proofs.lemmas.Slice.Eq.{bytes_eq-Decides}
 use Rattle.store_core.specs.declared.layout.Shape.{Shape}
 use Rattle.store_core.specs.Keys.{slot_of, IsApart, HasEachOnce}
 use Rattle.store_core.proofs.Slots.{turned, same_name}
-use Rattle.std.specs.Prelude.{map, is_some, ◌++◌}
+use Rattle.std.specs.Prelude.{map, is_some, ◌++◌, ◌&&◌, nat_lt}
+use Rattle.fl_ast.specs.declared.directive.Directive.{Directive}
+use Rattle.resolved.specs.declared.resolved.ResolvedHead.{ResolvedHead}
+use Rattle.resolved.specs.declared.resolved.ResolvedStmt.{ResolvedStmt, the_lemmas as statement_lemmas}
+use Rattle.resolved.specs.declared.resolved.ResolvedStmt.TheVariants as stmts
+use Rattle.resolved.specs.declared.resolved.ResolvedArm.{ResolvedArm}
+use Rattle.resolved.specs.SlotTables.{Names}
+use Rattle.resolved.specs.ResolvedStmts.{option_back, statement_back, statements_back, arms_back, is_option_within, is_fit, are_fit, are_arms_fit}
 use Rattle.std.proofs.lemmas.Bool.{and_from, and_parts, lt-ltb}
 use Rattle.std.proofs.lemmas.List.{map-append}
-use Rattle.fl_ast.specs.Tree.{Expressions, Designator}
+use Rattle.fl_ast.specs.Tree.{Expressions, Designator, branch, loop}
 use Rattle.resolved.specs.declared.resolved.ResolvedExpr.{ResolvedExpr}
-use Rattle.resolved.specs.ResolvedExprs.{slot_name, all_of, is_within, are_within}
+use Rattle.resolved.specs.ResolvedExprs.{slot_name, expression_back, all_of, is_within, are_within}
 
 later : (s : Shape) (es : List Shape) (x : List ℕ) (k : ℕ) (o : Option ℕ) → ((j : ℕ) → o ≡ Some j → slot_name es j ≡ x) → option_map suc o ≡ Some k → slot_name (s ∷ es) k ≡ x
 later s es x k None f e = cc
@@ -67,3 +74,39 @@ pub slot_again : (es : List Shape) (k : ℕ) → HasEachOnce es → k < length e
 slot_again [] k h l = absurd (omega arith)
 slot_again (s ∷ es) zero h l = rw (same_name s.name) refl
 slot_again (s ∷ es) (suc k) h l = rw (apart_name es k s.name h.0 (omega arith)) (ap (option_map suc) (slot_again es k h.1 (omega arith)))
+
+fit_parts : (a b c d e : Bool) → (a && (b && (c && (d && e)))) ≡ true → (a ≡ true) × (b ≡ true) × (c ≡ true) × (d ≡ true) × (e ≡ true)
+fit_parts a b c d e h =
+    let p = and_parts a (b && (c && (d && e))) h in
+    let q = and_parts b (c && (d && e)) p.1 in
+    let r = and_parts c (d && e) q.1 in
+    let t = and_parts d e r.1 in
+    (p.0, q.0, r.0, t.0, t.1)
+
+-- the parts of a loop that fits: its variable, first, last, step and body
+pub do_fit : (names : Names) (stmt : ResolvedStmt) (line number : ℕ) (directive : Option Directive) (head : ResolvedHead) (body : List ResolvedStmt) → stmt ≡ stmts.Do line number directive head body
+    → is_fit names stmt ≡ true
+    → (nat_lt head.variable (length names.0) ≡ true) × (is_within (length names.0) head.first ≡ true) × (is_within (length names.0) head.last ≡ true)
+    × (is_option_within (length names.0) head.step ≡ true) × (are_fit names body ≡ true)
+do_fit names stmt line number directive head body e h =
+    let f : is_fit names stmt
+        ≡ (nat_lt head.variable (length names.0) && (is_within (length names.0) head.first && (is_within (length names.0) head.last && (is_option_within (length names.0) head.step && are_fit names body))))
+        = search (rules, statement_lemmas) in
+    fit_parts (nat_lt head.variable (length names.0)) (is_within (length names.0) head.first) (is_within (length names.0) head.last) (is_option_within (length names.0) head.step) (are_fit names body) (sym f ∙ h)
+
+-- and of an `if`
+pub if_fit : (names : Names) (stmt : ResolvedStmt) (line : ℕ) (arms : List ResolvedArm) (other : List ResolvedStmt) → stmt ≡ stmts.If line arms other → is_fit names stmt ≡ true
+    → (are_arms_fit names arms ≡ true) × (are_fit names other ≡ true)
+if_fit names stmt line arms other e h =
+    let f : is_fit names stmt ≡ (are_arms_fit names arms && are_fit names other) = search (rules, statement_lemmas) in
+    and_parts (are_arms_fit names arms) (are_fit names other) (sym f ∙ h)
+
+-- the trees that they stand for
+pub do_back : (shapes : List Shape) (stmt : ResolvedStmt) (line number : ℕ) (directive : Option Directive) (head : ResolvedHead) (body : List ResolvedStmt) → stmt ≡ stmts.Do line number directive head body
+    → statement_back shapes stmt
+    ≡ loop line number directive (slot_name shapes head.variable) (expression_back shapes head.first) (expression_back shapes head.last) (option_back shapes head.step) (statements_back shapes body)
+do_back shapes stmt line number directive head body e = search (rules, statement_lemmas)
+
+pub if_back : (shapes : List Shape) (stmt : ResolvedStmt) (line : ℕ) (arms : List ResolvedArm) (other : List ResolvedStmt) → stmt ≡ stmts.If line arms other
+    → statement_back shapes stmt ≡ branch line (arms_back shapes arms) (statements_back shapes other)
+if_back shapes stmt line arms other e = search (rules, statement_lemmas)

@@ -20,8 +20,8 @@ option_back shapes (Some expr) = Some (expression_back shapes expr)
 abbrev pub statement_level : List Shape → ResolvedStmt-F Statement (Condition × Statements) → Statement
 statement_level shapes (ResolvedStmt-F.Assign line atomic target value form) = assignment line atomic (place_back shapes target) (expression_back shapes value)
 statement_level shapes (ResolvedStmt-F.If line arms other) = branch line (arms_of arms) (statements_of other)
-statement_level shapes (ResolvedStmt-F.Do line number variable first last step body) =
-    loop line number None (slot_name shapes variable) (expression_back shapes first) (expression_back shapes last) (option_back shapes step) (statements_of body)
+statement_level shapes (ResolvedStmt-F.Do line number directive head body) =
+    loop line number directive (slot_name shapes head.variable) (expression_back shapes head.first) (expression_back shapes head.last) (option_back shapes head.step) (statements_of body)
 
 abbrev pub arm_level : List Shape → ResolvedArm-F Statement (Condition × Statements) → Condition × Statements
 arm_level shapes a = (condition_back shapes a.test, statements_of a.body)
@@ -59,9 +59,9 @@ abbrev pub statement_fit : Names → ResolvedStmt-F Bool Bool → Bool
 statement_fit names (ResolvedStmt-F.Assign line atomic target value form) =
     is_place_within (length names.0) target && (is_within (length names.0) value && same_form form (form_in names (place_back names.0 target) (expression_back names.0 value)))
 statement_fit names (ResolvedStmt-F.If line arms other) = all_of arms && all_of other
-statement_fit names (ResolvedStmt-F.Do line number variable first last step body) =
-    nat_lt variable (length names.0)
-    && (is_within (length names.0) first && (is_within (length names.0) last && (is_option_within (length names.0) step && all_of body)))
+statement_fit names (ResolvedStmt-F.Do line number directive head body) =
+    nat_lt head.variable (length names.0)
+    && (is_within (length names.0) head.first && (is_within (length names.0) head.last && (is_option_within (length names.0) head.step && all_of body)))
 
 abbrev pub arm_fit : Names → ResolvedArm-F Bool Bool → Bool
 arm_fit names a = is_condition_within (length names.0) a.test && all_of a.body

@@ -1,4 +1,4 @@
--- The names of a run with their slots: shapes, kinds, and the width of data.
+-- The names of a run with their slots: shapes, kinds, the width of data, and the order of the declarations.
 use Rattle.std.specs.Prelude.{◌≡◌, ℕ, ◌<◌, ◌^◌, Bool, false, if◌then◌else◌, List, [], map, length, Option, Some, None, slice_get, Result, Ok, Err}
 use Rattle.ring_core.specs.declared.ring.Width.{Width}
 use Rattle.fl_ast.specs.declared.kind.Kind.{Kind}
@@ -11,9 +11,9 @@ use Rattle.store_core.specs.declared.layout.LayoutError.TheVariants.{TooManyPlac
 use Rattle.store_core.specs.Keys.{keys_of, slot_of, with_scalars}
 use Rattle.meaning.specs.Sites.{Site, data_width}
 
--- the shapes of all names by slot, their kinds, and the width of data
+-- the shapes of all names by slot, their kinds, the width of data, and the declared names in their order
 abbrev pub Names : Type 0
-Names = List Shape × List Kind × Width
+Names = List Shape × List Kind × Width × List (List ℕ)
 
 abbrev pub kind_or : Option Kind → Kind
 kind_or None = kind.Index
@@ -35,7 +35,7 @@ is_ring_in names x = is_ring_at names.1 (slot_of names.0 x)
 abbrev pub table_site : Names → Site
 table_site names = record {
   keys = keys_of names.0;
-  declared = [];
+  declared = names.3;
   ring = is_ring_in names;
   width = names.2;
   pushed = λ x. false;
@@ -53,7 +53,7 @@ kinds_of decls shapes = map (λ (s : Shape). named_kind decls s.name) shapes
 
 -- the names of a layout and declarations
 abbrev pub names_of : List Shape → List Decl → Names
-names_of shapes decls = (with_scalars shapes decls, kinds_of decls (with_scalars shapes decls), data_width decls)
+names_of shapes decls = (with_scalars shapes decls, kinds_of decls (with_scalars shapes decls), data_width decls, map (λ (d : Decl). d.name) decls)
 
 -- the table, or that it has too many names
 abbrev pub Tabulates : Result Names LayoutError → List Shape → List Decl → Type 0

@@ -8,5 +8,7 @@ mod slot_table;
 
 pub use resolve::{ResolveError, resolve_condition, resolve_expression, resolve_place};
 pub use resolve_stmts::{resolve_statement, resolve_statements};
-pub use resolved::{ResolvedArm, ResolvedCond, ResolvedExpr, ResolvedPlace, ResolvedStmt};
+pub use resolved::{
+    ResolvedArm, ResolvedCond, ResolvedExpr, ResolvedHead, ResolvedPlace, ResolvedStmt,
+};
 pub use slot_table::SlotTable;

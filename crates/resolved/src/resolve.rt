@@ -16,8 +16,6 @@ use thiserror::Error;
 pub enum ResolveError {
     #[error("a name has no slot in the layout")]
     Unplaced,
-    #[error("there is a parallel loop among the statements")]
-    Parallel,
     #[error("not enough memory")]
     Memory,
 }

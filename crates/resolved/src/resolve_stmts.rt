@@ -1,15 +1,14 @@
-ghost use Rattle.std.specs.Prelude.{◌≡◌, ◌<◌, length, true, is_none};
+ghost use Rattle.std.specs.Prelude.{◌≡◌, ◌<◌, length, true, IfOk};
 ghost use Rattle.fl_ast.specs.Tree.{assignment, expr_tree, place_tree, step_tree, stmt_tree, stmt_trees, arm_tree, arm_trees};
 ghost use Rattle.resolved.specs.ResolvedExprs.{slot_name, expression_back, is_within, is_placed};
-ghost use Rattle.meaning.specs.Sequential.{is_sequential, are_sequential, are_arms_sequential};
 ghost use Rattle.resolved.specs.ResolvedStmts.{statement_back, statements_back, arm_back, arms_back, option_back, form_in as form_in_lem, is_option_within, is_fit, are_fit, is_arm_fit, are_arms_fit, is_option_placed, is_statement_placed, are_statements_placed, is_arm_placed, are_arms_placed};
-ghost use Rattle.resolved.specs.ResolveAnswers.{Resolves, ResolvesStatements, ResolvesHead};
+ghost use Rattle.resolved.specs.ResolveAnswers.{Resolves, ResolvesHead};
 
 use crate::resolve::{ResolveError, resolve_condition, resolve_expression, resolve_place};
-use crate::resolved::{ResolvedArm, ResolvedExpr, ResolvedStmt};
+use crate::resolved::{ResolvedArm, ResolvedExpr, ResolvedHead, ResolvedStmt};
 use crate::slot_table::SlotTable;
-use fl_ast::{Arm, Expr, Kind, Name, Place, Stmt};
-use fl_base::Items;
+use fl_ast::{Arm, Directive, Expr, Kind, Name, Place, Stmt};
+use fl_base::{Boxed, Items, Memory};
 use fl_types::{IncrementForm, increment_form};
 use std::alloc::Global;
 use store_core::Layout;
@@ -34,7 +33,7 @@ fn resolve_assignment(
     target: &Place,
     value: &Expr,
 ) -> Result<ResolvedStmt, ResolveError>
-    ensures { ResolvesStatements (statement_back table.now.0) (is_fit table.now) (assignment line atomic (place_tree target.now) (expr_tree value.now)) true
+    ensures { Resolves (statement_back table.now.0) (is_fit table.now) (assignment line atomic (place_tree target.now) (expr_tree value.now))
         (is_statement_placed table.now.0 (assignment line atomic (place_tree target.now) (expr_tree value.now))) result }
 {
     let expr = resolve_expression(alloc, table.layout(), value)?;
@@ -63,15 +62,6 @@ fn resolve_option(
     }
 }
 
-/// A loop's variable and bounds.
-#[derive(Drop)]
-pub struct Head {
-    pub variable: usize,
-    pub first: ResolvedExpr,
-    pub last: ResolvedExpr,
-    pub step: Option<ResolvedExpr>,
-}
-
 fn resolve_head(
     alloc: Global,
     layout: &Layout,
@@ -79,7 +69,7 @@ fn resolve_head(
     first: &Expr,
     last: &Expr,
     step: &Option<Expr>,
-) -> Result<Head, ResolveError>
+) -> Result<ResolvedHead, ResolveError>
     ensures { ResolvesHead layout.now var.now (expr_tree first.now) (expr_tree last.now) (step_tree step.now) result }
 {
     let variable = match layout.slot(var) {
@@ -89,12 +79,24 @@ fn resolve_head(
     let first = resolve_expression(alloc, layout, first)?;
     let last = resolve_expression(alloc, layout, last)?;
     let step = resolve_option(alloc, layout, step)?;
-    Ok(Head {
+    Ok(ResolvedHead {
         variable,
         first,
         last,
         step,
     })
+}
+
+fn copy_directive(
+    alloc: Global,
+    directive: &Option<Directive>,
+) -> Result<Option<Boxed<Directive>>, Memory>
+    ensures { IfOk result (λ copy. copy ≡ directive.now) }
+{
+    match directive {
+        None => Ok(None),
+        Some(directive) => Ok(Some(Boxed::new(alloc, directive.clone(alloc)?)?)),
+    }
 }
 
 /// A statement with each name's slot.
@@ -104,8 +106,8 @@ pub fn resolve_statement(
     table: &SlotTable,
     stmt: &Stmt,
 ) -> Result<ResolvedStmt, ResolveError>
-    ensures { ResolvesStatements (statement_back table.now.0) (is_fit table.now) (stmt_tree stmt.now)
-        (is_sequential (stmt_tree stmt.now)) (is_statement_placed table.now.0 (stmt_tree stmt.now)) result }
+    ensures { Resolves (statement_back table.now.0) (is_fit table.now) (stmt_tree stmt.now)
+        (is_statement_placed table.now.0 (stmt_tree stmt.now)) result }
 {
     match stmt {
         Stmt::Assign {
@@ -133,39 +135,29 @@ pub fn resolve_statement(
             step,
             body,
         } => {
-            if directive.is_some() {
-                return Err(ResolveError::Parallel);
-            }
+            let directive = copy_directive(alloc, directive)?;
             let head = resolve_head(alloc, table.layout(), var, first, last, step)?;
             let body = resolve_statements(alloc, table, body.as_slice())?;
-            let Head {
-                variable,
-                first,
-                last,
-                step,
-            } = head;
             Ok(ResolvedStmt::Do {
                 line: *line,
                 number: *number,
-                variable,
-                first,
-                last,
-                step,
+                directive,
+                head,
                 body,
             })
         }
     }
 }
 
-/// Statements with each name's slot, where none is a parallel loop.
+/// Statements with each name's slot.
 #[cycle(resolve_statements)]
 pub fn resolve_statements(
     alloc: Global,
     table: &SlotTable,
     stmts: &[Stmt],
 ) -> Result<Items<ResolvedStmt>, ResolveError>
-    ensures { ResolvesStatements (statements_back table.now.0) (are_fit table.now) (stmt_trees stmts.now)
-        (are_sequential (stmt_trees stmts.now)) (are_statements_placed table.now.0 (stmt_trees stmts.now)) result }
+    ensures { Resolves (statements_back table.now.0) (are_fit table.now) (stmt_trees stmts.now)
+        (are_statements_placed table.now.0 (stmt_trees stmts.now)) result }
 {
     let mut all = Items::new(alloc);
     for stmt in stmts {
@@ -181,8 +173,8 @@ fn resolve_arms(
     table: &SlotTable,
     arms: &[Arm],
 ) -> Result<Items<ResolvedArm>, ResolveError>
-    ensures { ResolvesStatements (arms_back table.now.0) (are_arms_fit table.now) (arm_trees arms.now)
-        (are_arms_sequential (arm_trees arms.now)) (are_arms_placed table.now.0 (arm_trees arms.now)) result }
+    ensures { Resolves (arms_back table.now.0) (are_arms_fit table.now) (arm_trees arms.now)
+        (are_arms_placed table.now.0 (arm_trees arms.now)) result }
 {
     let mut all = Items::new(alloc);
     for arm in arms {
@@ -194,8 +186,8 @@ fn resolve_arms(
 
 #[cycle(resolve_statements)]
 fn resolve_arm(alloc: Global, table: &SlotTable, arm: &Arm) -> Result<ResolvedArm, ResolveError>
-    ensures { ResolvesStatements (arm_back table.now.0) (is_arm_fit table.now) (arm_tree arm.now)
-        (are_sequential (arm_tree arm.now).1) (is_arm_placed table.now.0 (arm_tree arm.now)) result }
+    ensures { Resolves (arm_back table.now.0) (is_arm_fit table.now) (arm_tree arm.now)
+        (is_arm_placed table.now.0 (arm_tree arm.now)) result }
 {
     let test = resolve_condition(alloc, table.layout(), &arm.test)?;
     let body = resolve_statements(alloc, table, arm.body.as_slice())?;

@@ -1,4 +1,4 @@
-use fl_ast::{BinOp, Fun, Kind, RelOp};
+use fl_ast::{BinOp, Directive, Fun, Kind, RelOp};
 use fl_base::{Boxed, Items};
 use fl_types::IncrementForm;
 
@@ -48,7 +48,16 @@ pub enum ResolvedCond {
     Or(Boxed<ResolvedCond>, Boxed<ResolvedCond>),
 }
 
-/// A statement outside of parallel loops whose names are slots of a layout.
+/// The variable and the bounds of a loop.
+#[derive(Drop)]
+pub struct ResolvedHead {
+    pub variable: usize,
+    pub first: ResolvedExpr,
+    pub last: ResolvedExpr,
+    pub step: Option<ResolvedExpr>,
+}
+
+/// A statement whose names are slots of a layout. The names of a directive stand as they are.
 #[cycle(stmt)]
 #[derive(Drop)]
 pub enum ResolvedStmt {
@@ -68,10 +77,8 @@ pub enum ResolvedStmt {
     Do {
         line: u32,
         number: u32,
-        variable: usize,
-        first: ResolvedExpr,
-        last: ResolvedExpr,
-        step: Option<ResolvedExpr>,
+        directive: Option<Boxed<Directive>>,
+        head: ResolvedHead,
         body: Items<ResolvedStmt>,
     },
 }

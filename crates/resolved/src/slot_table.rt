@@ -1,33 +1,36 @@
-ghost use Rattle.std.specs.Prelude.{◌≡◌, ◌<◌, length, IfOk};
+ghost use Rattle.std.specs.Prelude.{◌≡◌, ◌<◌, length, map, IfOk};
+ghost use Rattle.fl_ast.specs.declared.decl.Decl.{Decl as Declaration};
 ghost use Rattle.fl_types.specs.Sharing.{is_ring_name, is_ring_kind as is_ring_kind_lem};
 ghost use Rattle.resolved.specs.SlotTables.{kind_at, kinds_of, named_kind, table_site, Tabulates};
 ghost use Rattle.meaning.specs.Sites.{kind_of as kind_of_lem, width_of as width_of_lem, data_width as data_width_lem};
 ghost use Rattle.resolved.specs.ResolvedExprs.{slot_name};
 
 use fl_ast::{Decl, Kind, Memory, Name};
+use fl_base::Items;
 use ring_core::Width;
 use std::alloc::Global;
 use std::marker::Model;
 use store_core::{Layout, LayoutError, Shape};
 
 /// The names of a run, which all have slots: those of a program's layout, and after them the scalars that live in a loop
-/// alone. Contracts see the shapes and the kinds, slot by slot, and the width of data.
+/// alone. Contracts see the shapes and the kinds, slot by slot, the width of data, and the declared names in their order.
 #[derive(Drop)]
 pub struct SlotTable {
     layout: Layout,
     kinds: Vec<Kind>,
     width: Width,
+    declared: Items<Name>,
 }
 
 impl Model for SlotTable {
-    ghost use Rattle.std.specs.Prelude.{List, ◌≡◌, length};
+    ghost use Rattle.std.specs.Prelude.{ℕ, List, ◌≡◌, length};
     ghost use Rattle.fl_ast.specs.declared.kind.Kind.{Kind};
     ghost use Rattle.ring_core.specs.declared.ring.Width.{Width};
     ghost use Rattle.store_core.specs.declared.layout.Shape.{Shape};
 
-    ghost Value = { List Shape × List Kind × Width };
+    ghost Value = { List Shape × List Kind × Width × List (List ℕ) };
 
-    ghost view = { λ table. (table.layout, table.kinds.items, table.width) };
+    ghost view = { λ table. (table.layout, table.kinds.items, table.width, table.declared) };
 
     ghost use Rattle.store_core.specs.Keys.{HasEachOnce};
 
@@ -42,10 +45,12 @@ impl SlotTable {
         let layout = layout.with_scalars(alloc, decls)?;
         let kinds = kinds(alloc, decls, layout.shapes())?;
         let width = data_width(decls);
+        let declared = declared_names(alloc, decls)?;
         Ok(SlotTable {
             layout,
             kinds,
             width,
+            declared,
         })
     }
 
@@ -61,6 +66,13 @@ impl SlotTable {
         ensures { result ≡ self.now.2 }
     {
         self.width
+    }
+
+    /// The declared names, in the order of the declarations.
+    pub fn declared(&self) -> &[Name]
+        ensures { result.now ≡ self.now.3 }
+    {
+        self.declared.as_slice()
     }
 
     /// The kind of a slot's name.
@@ -134,4 +146,14 @@ fn kinds(alloc: Global, decls: &[Decl], shapes: &[Shape]) -> Result<Vec<Kind>, M
         kinds.push(kind_of(decls, &shape.name))?;
     }
     Ok(kinds)
+}
+
+fn declared_names(alloc: Global, decls: &[Decl]) -> Result<Items<Name>, Memory>
+    ensures { IfOk result (λ names. names ≡ map (λ (d : Declaration). d.name) decls.now) }
+{
+    let mut names = Items::new(alloc);
+    for decl in decls {
+        names.push(decl.name.clone(alloc)?)?;
+    }
+    Ok(names)
 }

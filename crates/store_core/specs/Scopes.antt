@@ -5,16 +5,16 @@ use Rattle.fl_ast.specs.declared.directive.Directive.{Directive}
 use Rattle.fl_ast.specs.Tree.{Statement, assignment, branch, loop, Statements, no_statements, statement, Arms, no_arms, arm}
 
 -- the directive has the name in its `private` clause
-abbrev pub is_private : List ℕ → Option Directive → Bool
-is_private x None = false
-is_private x (Some d) = list_any (λ name. bytes_eq x name) d.privates
+abbrev pub is_listed_private : List ℕ → Option Directive → Bool
+is_listed_private x None = false
+is_listed_private x (Some d) = list_any (λ name. bytes_eq x name) d.privates
 
 -- the name is the variable of a loop in the tree, or private in one
 abbrev mutual
   pub scopes : List ℕ → Statement → Bool
   scopes x (assignment line atomic target value) = false
   scopes x (branch line arms other) = scopes_in_arms x arms || scopes_in x other
-  scopes x (loop line number directive var first last step body) = bytes_eq x var || (is_private x directive || scopes_in x body)
+  scopes x (loop line number directive var first last step body) = bytes_eq x var || (is_listed_private x directive || scopes_in x body)
 
   pub scopes_in : List ℕ → Statements → Bool
   scopes_in x no_statements = false

@@ -1,7 +1,7 @@
 ghost use Rattle.std.specs.Prelude.{◌≡◌, bytes_eq};
 ghost use Rattle.std.specs.List.{list_any};
 ghost use Rattle.fl_ast.specs.Tree.{stmt_tree, stmt_trees, arm_trees};
-ghost use Rattle.store_core.specs.Scopes.{is_private, scopes, scopes_in, scopes_in_arms};
+ghost use Rattle.store_core.specs.Scopes.{is_listed_private, scopes, scopes_in, scopes_in_arms};
 
 use fl_ast::{Arm, Directive, Name, Stmt};
 
@@ -50,7 +50,7 @@ fn arms_scope(arms: &[Arm], name: &Name) -> bool
 }
 
 fn lists_private(directive: &Option<Directive>, name: &Name) -> bool
-    ensures { result ≡ is_private name.now directive.now }
+    ensures { result ≡ is_listed_private name.now directive.now }
 {
     match directive {
         Some(directive) => is_among(directive.privates.as_slice(), name),

@@ -1,4 +1,4 @@
-ghost use Rattle.std.specs.Prelude.{◌≡◌, ◌∷◌, [], ◌↔◌, IsTrue, OnOk, OnErr};
+ghost use Rattle.std.specs.Prelude.{◌≡◌, ◌∷◌, [], OnOk, OnErr};
 ghost use Rattle.store_core.specs.Tapes.{Item, word, IsWordOnTop};
 
 use fl_base::{Items, Memory, Name};
@@ -53,13 +53,6 @@ impl Tape {
     {
         self.words.push(value)?;
         Ok(())
-    }
-
-    /// Whether a word is on top.
-    pub fn has_word(&self) -> bool
-        ensures { IsTrue result ↔ IsWordOnTop self.now }
-    {
-        !self.words.as_slice().is_empty()
     }
 
     /// Takes the word that is on top.

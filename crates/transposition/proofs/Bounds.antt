@@ -6,22 +6,10 @@ use Rattle.meaning.specs.declared.value.Value.{Value}
 use Rattle.meaning.specs.Logs.{Log, silence, both, Traced, pure, after, continuation, ◌>>=◌}
 use Rattle.meaning.specs.Sites.{Cells, Site}
 use Rattle.meaning.specs.Expressions.{content, read_cell, read_place, value_of, values_of}
+use Rattle.meaning.proofs.Parts.{bound}
 use Rattle.transposition.specs.Worlds.{World}
 use Rattle.transposition.specs.Law.{HasTouch, HasDifferentiatedRead}
 use Rattle.transposition.proofs.Reading.{seen, TouchesIn}
-
-pub record Bound {X A B : Type 0} (r : Traced X A) (k : A → Traced X B) (b : B) : Type 0 where
-  pub a : A
-  pub first : r.out ≡ Ok a
-  pub second : (k a).out ≡ Ok b
-  pub log : (r >>= k).log ≡ both r.log (k a).log
-
-bound_by : {X A B : Type 0} (l : Log) (o : Result A X) (k : A → Traced X B) (b : B) → (continuation l o k).out ≡ Ok b → Bound (record { log = l; out = o }) k b
-bound_by l (Ok a) k b h = record { a = a; first = refl; second = h; log = refl }
-bound_by l (Err x) k b h = cc
-
-pub bound : {X A B : Type 0} (r : Traced X A) (k : A → Traced X B) (b : B) → (r >>= k).out ≡ Ok b → Bound r k b
-bound r k b h = bound_by r.log r.out k b h
 
 -- the touches of a right side are among those of the run, and its reads are differentiated
 pub record Inside (w : World) (ts a : Log) : Type 0 where
@@ -57,23 +45,6 @@ read_inverted site s x (Some p) v h = by_content (content s p) refl h
     by_content : (c : Option Value) → content s p ≡ c → (read_cell site x p c).out ≡ Ok v → ReadAt site s x (Some p) v (read_cell site x p c).log
     by_content None f g = cc
     by_content (Some y) f g = by_access (site.accessed x) y refl f g
-
--- ---- lists of values
-
-pub record Listed (site : Site) (s : Cells) (e : Expression) (es : Expressions) (vs : List Value) : Type 0 where
-  pub v : Value
-  pub more : List Value
-  pub whole : vs ≡ v ∷ more
-  pub first : (value_of e site s).out ≡ Ok v
-  pub second : (values_of es site s).out ≡ Ok more
-  pub log : (values_of (expression e es) site s).log ≡ both (value_of e site s).log (both (values_of es site s).log silence)
-
-pub listed : (site : Site) (s : Cells) (e : Expression) (es : Expressions) (vs : List Value) → (values_of (expression e es) site s).out ≡ Ok vs → Listed site s e es vs
-listed site s e es vs h =
-    let f = bound (value_of e site s) (λ v. values_of es site s >>= (λ vals. pure (v ∷ vals))) vs h in
-    let g = bound (values_of es site s) (λ vals. pure (f.a ∷ vals)) vs f.second in
-    let i : f.a ∷ g.a ≡ vs = let j = g.second in cc in
-    record { v = f.a; more = g.a; whole = sym i; first = f.first; second = g.first; log = f.log ∙ ap (λ (l : Log). both (value_of e site s).log l) g.log }
 
 -- ---- a run whose first part is known
 

@@ -18,6 +18,7 @@ use Rattle.fl_types.specs.declared.access.AccessKind.TheVariants.{Read}
 use Rattle.ring_core.specs.declared.index.IndexTrap.TheVariants as index_trap
 use Rattle.std.proofs.Math.Nat.{pow-suc, pow-zero}
 use Rattle.meaning.proofs.Powers.{value_of_pow}
+use Rattle.meaning.proofs.Parts.{Bound, bound, listed}
 use Rattle.transposition.proofs.PowerFits.{powers_fit}
 use Rattle.meaning.specs.declared.value.Dual.{Dual}
 use Rattle.meaning.specs.declared.value.Value.{Value}
@@ -36,7 +37,7 @@ use Rattle.transposition.proofs.Keys.{stands}
 use Rattle.transposition.proofs.ValueKinds.{is_ring, value_kind, larger_is, smaller_is, negative_is}
 use Rattle.transposition.proofs.Tangents.{negated_still, worth, moves, moves_is, moves_of, sum_of, binary_moves, negated_moves, remainder_moves, scaled, turned, power_none, power_some, power_index, literal_moves}
 use Rattle.transposition.proofs.Reading.{TouchesIn}
-use Rattle.transposition.proofs.Bounds.{Bound, bound, Inside, inside_left, inside_right, ReadAt, read_inverted, listed, bound_back, told_both}
+use Rattle.transposition.proofs.Bounds.{Inside, inside_left, inside_right, ReadAt, read_inverted, bound_back, told_both}
 use Rattle.transposition.proofs.Spreading.{KnownValue, KnownTest, Product, product_last, product_more, silent, Sum, sum_both}
 
 pub record Sums (w : World) (s : Cells) (ts : Log) (a : ℕ) (os : List Occurrence) (y : ℕ) : Type 0 where
@@ -67,20 +68,20 @@ get_sums w u s ts x ss less fs a n b fit on quiet prod ins v h = by_test b on qu
     f : Bound (values_of ss w.site s) (read w.site s x) v
     f = bound (values_of ss w.site s) (read w.site s x) v h
 
-    at : ReadAt w.site s x (place_of w.site x (whole_numbers f.a)) v (read w.site s x f.a).log
-    at = read_inverted w.site s x (place_of w.site x (whole_numbers f.a)) v f.second
+    at : ReadAt w.site s x (place_of w.site x (whole_numbers f.value)) v (read w.site s x f.value).log
+    at = read_inverted w.site s x (place_of w.site x (whole_numbers f.value)) v f.second
 
     subs : Inside w ts (values_of ss w.site s).log
     subs = inside_left w ts _ _ _ f.log ins
 
-    self : Inside w ts (read w.site s x f.a).log
+    self : Inside w ts (read w.site s x f.value).log
     self = inside_right w ts _ _ _ f.log ins
 
     here : tangent_of (content s at.p) ≡ moves v
     here = ap tangent_of at.holds ∙ moves_is v
 
     named : name_at w.site.keys at.p ≡ x
-    named = (stands w.site.keys x (whole_numbers f.a) at.p at.place).named
+    named = (stands w.site.keys x (whole_numbers f.value) at.p at.place).named
 
     by_test : (b : Bool) → w.active x ≡ b → (b ≡ false → u.moved x ≡ false) → Sums w s ts a (if b then record { place = record { name = x; subscripts = ss }; negative = less; factors = fs } ∷ [] else []) (with_sign less n * moves v)
     by_test true e q = record {
@@ -92,7 +93,7 @@ get_sums w u s ts x ss less fs a n b fit on quiet prod ins v h = by_test b on qu
           n = n;
           product = prod;
           p = at.p;
-          placed = record { vals = f.a; out = f.first; told = subs.told; place = at.place };
+          placed = record { vals = f.value; out = f.first; told = subs.told; place = at.place };
           read = λ i. self.told Read at.p (at.touched i);
           differentiated = λ i. self.reads at.p (at.touched i);
           amount = refl;
@@ -279,18 +280,18 @@ two_sums w u s ts fit o f ch a b ka kb less fs c n prod ins one na nb qa qb vs h
     let i = listed w.site s a (expression b no_expressions) vs h in
     let j = listed w.site s b no_expressions i.more i.second in
     let k : j.more ≡ [] = no_values w.site s j.more j.second in
-    let e : vs ≡ i.v ∷ j.v ∷ [] = i.whole ∙ ap (λ (l : List Value). i.v ∷ l) (j.whole ∙ ap (λ (l : List Value). j.v ∷ l) k) in
-    let found : f i.v j.v ≡ Ok v = taken_value f vs (i.v ∷ j.v ∷ []) v e g in
-    let t : Bool = relates w.site.width o i.v j.v in
-    let same-v : (if t then i.v else j.v) ≡ v = let m : Ok (if t then i.v else j.v) ≡ Ok v = sym (ch i.v j.v (value_kind w u s fit a na i.v i.first ∙ (one ∙ sym (value_kind w u s fit b nb j.v j.first)))) ∙ found in cc in
+    let e : vs ≡ i.value ∷ j.value ∷ [] = i.whole ∙ ap (λ (l : List Value). i.value ∷ l) (j.whole ∙ ap (λ (l : List Value). j.value ∷ l) k) in
+    let found : f i.value j.value ≡ Ok v = taken_value f vs (i.value ∷ j.value ∷ []) v e g in
+    let t : Bool = relates w.site.width o i.value j.value in
+    let same-v : (if t then i.value else j.value) ≡ v = let m : Ok (if t then i.value else j.value) ≡ Ok v = sym (ch i.value j.value (value_kind w u s fit a na i.value i.first ∙ (one ∙ sym (value_kind w u s fit b nb j.value j.first)))) ∙ found in cc in
     let ia = inside_left w ts _ _ _ i.log ins in
     let ir = inside_right w ts _ _ _ i.log ins in
     let ib = inside_left w ts _ _ _ j.log (inside_left w ts _ _ _ refl ir) in
-    let known1 = test_known w s ts o a b i.v j.v 1 0 i.first j.first ia.told ib.told in
-    let known0 = test_known w s ts o a b i.v j.v 0 1 i.first j.first ia.told ib.told in
-    sums_same w s ts c _ _ _ (chosen_equation less n (moves i.v) (moves j.v) t ∙ of_equal _ _ (ap (λ (m : ℕ). with_sign less n * m) (sym (moves_if t i.v j.v) ∙ ap moves same-v)))
-    (sums_both w s ts c _ _ _ _ (ka less (fs ++ either 1 0 (relation o a b) ∷ []) c _ (product_last w s ts fs (either 1 0 (relation o a b)) c n _ prod known1) ia na qa i.v i.first)
-    (kb less (fs ++ either 0 1 (relation o a b) ∷ []) c _ (product_last w s ts fs (either 0 1 (relation o a b)) c n _ prod known0) ib nb qb j.v j.first))
+    let known1 = test_known w s ts o a b i.value j.value 1 0 i.first j.first ia.told ib.told in
+    let known0 = test_known w s ts o a b i.value j.value 0 1 i.first j.first ia.told ib.told in
+    sums_same w s ts c _ _ _ (chosen_equation less n (moves i.value) (moves j.value) t ∙ of_equal _ _ (ap (λ (m : ℕ). with_sign less n * m) (sym (moves_if t i.value j.value) ∙ ap moves same-v)))
+    (sums_both w s ts c _ _ _ _ (ka less (fs ++ either 1 0 (relation o a b) ∷ []) c _ (product_last w s ts fs (either 1 0 (relation o a b)) c n _ prod known1) ia na qa i.value i.first)
+    (kb less (fs ++ either 0 1 (relation o a b) ∷ []) c _ (product_last w s ts fs (either 0 1 (relation o a b)) c n _ prod known0) ib nb qb j.value j.first))
 
 one_sums : (w : World) (u : Use) (s : Cells) (ts : Log) (a : Expression) → SumsOf w u s ts a
     → (less : Bool) (fs : List Factor) (c n : ℕ) → Product w s ts fs c n → Inside w ts (values_of (expression a no_expressions) w.site s).log → Kinded w.site.ring a → Quiet w.active u a
@@ -299,12 +300,12 @@ one_sums : (w : World) (u : Use) (s : Cells) (ts : Log) (a : Expression) → Sum
 one_sums w u s ts a ka less fs c n prod ins na qa vs h v g =
     let i = listed w.site s a no_expressions vs h in
     let k : i.more ≡ [] = no_values w.site s i.more i.second in
-    let found : (absolute_result w.site.width) i.v ≡ Ok v = taken_one (absolute_result w.site.width) vs (i.v ∷ []) v (i.whole ∙ ap (λ (l : List Value). i.v ∷ l) k) g in
+    let found : (absolute_result w.site.width) i.value ≡ Ok v = taken_one (absolute_result w.site.width) vs (i.value ∷ []) v (i.whole ∙ ap (λ (l : List Value). i.value ∷ l) k) g in
     let ia = inside_left w ts _ _ _ i.log ins in
     let zero-value : Value = Ring (record { value = 0; tangent = 0 }) in
-    let known = test_known w s ts rel.Lt a (literal 0 kind.Ring) i.v zero-value minus_one 1 i.first refl ia.told (silent ts) in
-    sums_same w s ts c _ _ _ (scaled less n _ (moves i.v) ∙ same_product (with_sign less n) (with_sign less n) _ _ refl (sym (absolute_moves w.site.width i.v v (record { value = 0; tangent = 0 }) refl found)))
-    (ka less (fs ++ either minus_one 1 (relation rel.Lt a (literal 0 kind.Ring)) ∷ []) c _ (product_last w s ts fs (either minus_one 1 (relation rel.Lt a (literal 0 kind.Ring))) c n _ prod known) ia na qa i.v i.first)
+    let known = test_known w s ts rel.Lt a (literal 0 kind.Ring) i.value zero-value minus_one 1 i.first refl ia.told (silent ts) in
+    sums_same w s ts c _ _ _ (scaled less n _ (moves i.value) ∙ same_product (with_sign less n) (with_sign less n) _ _ refl (sym (absolute_moves w.site.width i.value v (record { value = 0; tangent = 0 }) refl found)))
+    (ka less (fs ++ either minus_one 1 (relation rel.Lt a (literal 0 kind.Ring)) ∷ []) c _ (product_last w s ts fs (either minus_one 1 (relation rel.Lt a (literal 0 kind.Ring))) c n _ prod known) ia na qa i.value i.first)
 
 -- the values of an expression's two operands
 record Operands (site : Site) (s : Cells) (a b : Expression) (op : BinOp) (v : Value) : Type 0 where
@@ -318,8 +319,8 @@ record Operands (site : Site) (s : Cells) (a b : Expression) (op : BinOp) (v : V
 operands : (site : Site) (s : Cells) (a b : Expression) (op : BinOp) (v : Value) → (value_of (binary op a b) site s).out ≡ Ok v → Operands site s a b op v
 operands site s a b op v h =
     let f = bound (value_of a site s) (λ x. value_of b site s >>= (λ y. lift (binary_result op x y))) v h in
-    let g = bound (value_of b site s) (λ y. lift (binary_result op f.a y)) v f.second in
-    record { va = f.a; vb = g.a; first = f.first; second = g.first; result = g.second; log = f.log ∙ ap (λ (l : Log). both (value_of a site s).log l) g.log }
+    let g = bound (value_of b site s) (λ y. lift (binary_result op f.value y)) v f.second in
+    record { va = f.value; vb = g.value; first = f.first; second = g.first; result = g.second; log = f.log ∙ ap (λ (l : Log). both (value_of a site s).log l) g.log }
 
 mutual
   pub expression_sums : (w : World) (u : Use) (s : Cells) (ts : Log) → Fit w u s → (e : Expression) → SumsOf w u s ts e
@@ -327,8 +328,8 @@ mutual
   expression_sums w u s ts fit (get x ss) less fs a n prod ins kd q v h = get_sums w u s ts x ss less fs a n (w.active x) fit refl q prod ins v h
   expression_sums w u s ts fit (minus e) less fs a n prod ins kd q v h =
       let f = bound (value_of e w.site s) (λ x. lift (negation_result x)) v h in
-      sums_same w s ts a (occurrences w.active e (not less) fs) _ _ (turned less n (moves f.a) ∙ same_product (with_sign less n) (with_sign less n) _ (moves v) refl (sym (moves_of (negation_result f.a) (λ m. Same m (last * moves f.a)) v f.second (negated_moves f.a))))
-      (expression_sums w u s ts fit e (not less) fs a n prod (inside_left w ts _ _ _ f.log ins) kd q f.a f.first)
+      sums_same w s ts a (occurrences w.active e (not less) fs) _ _ (turned less n (moves f.value) ∙ same_product (with_sign less n) (with_sign less n) _ (moves v) refl (sym (moves_of (negation_result f.value) (λ m. Same m (last * moves f.value)) v f.second (negated_moves f.value))))
+      (expression_sums w u s ts fit e (not less) fs a n prod (inside_left w ts _ _ _ f.log ins) kd q f.value f.first)
   expression_sums w u s ts fit (binary Add e g) less fs a n prod ins kd q v h =
       let o = operands w.site s e g Add v h in
       sums_same w s ts a (occurrences w.active e less fs ++ occurrences w.active g less fs) _ _ (add_equation (with_sign less n) (moves o.va) (moves o.vb) (moves v) (moves_of (binary_result Add o.va o.vb) (λ m. Same m (sum_of Add o.va o.vb)) v o.result (binary_moves Add o.va o.vb)))
@@ -354,22 +355,22 @@ mutual
   expression_sums w u s ts fit (power e p) less fs a n prod ins kd q v h =
       let f = bound (value_of e w.site s) (λ x. lift (power_result x p)) v h in
       let ie = inside_left w ts _ _ _ f.log ins in
-      let k : KnownValue w s ts e (worth f.a) = record { v = f.a; out = f.first; worth = refl; told = ie.told } in
-      let st = power_step w s ts e n f.a v k f.first p f.second in
+      let k : KnownValue w s ts e (worth f.value) = record { v = f.value; out = f.first; worth = refl; told = ie.told } in
+      let st = power_step w s ts e n f.value v k f.first p f.second in
       sums_same w s ts a (occurrences w.active e less (fs ++ power_factors e p)) _ _ (st.same less)
-      (expression_sums w u s ts fit e less (fs ++ power_factors e p) a st.m (product_more w s ts fs (power_factors e p) a n st.m prod st.product) ie kd q f.a f.first)
+      (expression_sums w u s ts fit e less (fs ++ power_factors e p) a st.m (product_more w s ts fs (power_factors e p) a n st.m prod st.product) ie kd q f.value f.first)
   expression_sums w u s ts fit (call Max args) less fs a n prod ins kd q v h =
       let f = bound (values_of args w.site s) (λ vs. lift (call_result w.site.width Max vs)) v h in
-      pair_sums w u s ts fit rel.Ge (larger_result w.site.width) (larger_is w.site.width) args less fs a n prod (inside_left w ts _ _ _ f.log ins) kd.0 kd.1 q f.a f.first v f.second
+      pair_sums w u s ts fit rel.Ge (larger_result w.site.width) (larger_is w.site.width) args less fs a n prod (inside_left w ts _ _ _ f.log ins) kd.0 kd.1 q f.value f.first v f.second
   expression_sums w u s ts fit (call Min args) less fs a n prod ins kd q v h =
       let f = bound (values_of args w.site s) (λ vs. lift (call_result w.site.width Min vs)) v h in
-      pair_sums w u s ts fit rel.Le (smaller_result w.site.width) (smaller_is w.site.width) args less fs a n prod (inside_left w ts _ _ _ f.log ins) kd.0 kd.1 q f.a f.first v f.second
+      pair_sums w u s ts fit rel.Le (smaller_result w.site.width) (smaller_is w.site.width) args less fs a n prod (inside_left w ts _ _ _ f.log ins) kd.0 kd.1 q f.value f.first v f.second
   expression_sums w u s ts fit (call Abs args) less fs a n prod ins kd q v h =
       let f = bound (values_of args w.site s) (λ vs. lift (call_result w.site.width Abs vs)) v h in
-      single_sums w u s ts fit args less fs a n prod (inside_left w ts _ _ _ f.log ins) kd.1 q f.a f.first v f.second
+      single_sums w u s ts fit args less fs a n prod (inside_left w ts _ _ _ f.log ins) kd.1 q f.value f.first v f.second
   expression_sums w u s ts fit (call Mod args) less fs a n prod ins kd q v h =
       let f = bound (values_of args w.site s) (λ vs. lift (call_result w.site.width Mod vs)) v h in
-      sums_none w s ts a (moves v) less n (remainder_still f.a v f.second)
+      sums_none w s ts a (moves v) less n (remainder_still f.value v f.second)
 
   pair_sums : (w : World) (u : Use) (s : Cells) (ts : Log) → Fit w u s → (o : RelOp) (f : Value → Value → Found) → ((x y : Value) → is_ring x ≡ is_ring y → f x y ≡ Ok (if relates w.site.width o x y then x else y)) → (args : Expressions)
       → (less : Bool) (fs : List Factor) (c n : ℕ) → Product w s ts fs c n → Inside w ts (values_of args w.site s).log → PairOfOneKind w.site.ring args → KindedAll w.site.ring args → QuietAll w.active u args
@@ -379,14 +380,14 @@ mutual
       let e = taken_value f vs [] v (no_values w.site s vs h) g in cc
   pair_sums w u s ts fit o f ch (expression a no_expressions) less fs c n prod ins one kd q vs h v g =
       let i = listed w.site s a no_expressions vs h in
-      let e = taken_value f vs (i.v ∷ []) v (i.whole ∙ ap (λ (l : List Value). i.v ∷ l) (no_values w.site s i.more i.second)) g in cc
+      let e = taken_value f vs (i.value ∷ []) v (i.whole ∙ ap (λ (l : List Value). i.value ∷ l) (no_values w.site s i.more i.second)) g in cc
   pair_sums w u s ts fit o f ch (expression a (expression b no_expressions)) less fs c n prod ins one kd q vs h v g =
       two_sums w u s ts fit o f ch a b (expression_sums w u s ts fit a) (expression_sums w u s ts fit b) less fs c n prod ins one kd.0 kd.1.0 q.0 q.1.0 vs h v g
   pair_sums w u s ts fit o f ch (expression a (expression b (expression d es))) less fs c n prod ins one kd q vs h v g =
       let i = listed w.site s a (expression b (expression d es)) vs h in
       let j = listed w.site s b (expression d es) i.more i.second in
       let k = listed w.site s d es j.more j.second in
-      let e = taken_value f vs (i.v ∷ j.v ∷ k.v ∷ k.more) v (i.whole ∙ ap (λ (l : List Value). i.v ∷ l) (j.whole ∙ ap (λ (l : List Value). j.v ∷ l) k.whole)) g in cc
+      let e = taken_value f vs (i.value ∷ j.value ∷ k.value ∷ k.more) v (i.whole ∙ ap (λ (l : List Value). i.value ∷ l) (j.whole ∙ ap (λ (l : List Value). j.value ∷ l) k.whole)) g in cc
 
   single_sums : (w : World) (u : Use) (s : Cells) (ts : Log) → Fit w u s → (args : Expressions)
       → (less : Bool) (fs : List Factor) (c n : ℕ) → Product w s ts fs c n → Inside w ts (values_of args w.site s).log → KindedAll w.site.ring args → QuietAll w.active u args
@@ -399,4 +400,4 @@ mutual
   single_sums w u s ts fit (expression a (expression b es)) less fs c n prod ins kd q vs h v g =
       let i = listed w.site s a (expression b es) vs h in
       let j = listed w.site s b es i.more i.second in
-      let e = taken_one (absolute_result w.site.width) vs (i.v ∷ j.v ∷ j.more) v (i.whole ∙ ap (λ (l : List Value). i.v ∷ l) j.whole) g in cc
+      let e = taken_one (absolute_result w.site.width) vs (i.value ∷ j.value ∷ j.more) v (i.whole ∙ ap (λ (l : List Value). i.value ∷ l) j.whole) g in cc

@@ -19,6 +19,7 @@ use Rattle.meaning.specs.Sites.{Cells, Site, place_of, kind_of}
 use Rattle.meaning.specs.Expressions.{content}
 use Rattle.meaning.specs.Statements.{Run, turns_of, value_at, set_at, set_log_at, with_variable, with_variables, Heads, iterations, words_of_all, further_turns, heads_of}
 use Rattle.meaning.proofs.Variables.{variables_fit}
+use Rattle.meaning.proofs.Parts.{bound}
 use Rattle.transposition.specs.Tapes.{Tape, word, tape_after}
 use Rattle.transposition.specs.Worlds.{World, Local, name_at, with_value}
 use Rattle.transposition.specs.Reads.{place_or_zero}
@@ -29,7 +30,6 @@ use Rattle.transposition.specs.Sound.{AllOwn, Literals, OptionLiterals, HeadLite
 use Rattle.transposition.proofs.Split.{set_own, cells_kept}
 use Rattle.transposition.proofs.Keys.{stands}
 use Rattle.transposition.proofs.Places.{content_set_same, content_set_other}
-use Rattle.transposition.proofs.Bounds.{bound}
 use Rattle.transposition.proofs.Kept.{fit_set}
 use Rattle.transposition.proofs.Runs.{lined, TurnsRun, turns_run}
 use Rattle.transposition.proofs.Taping.{Wordless}
@@ -86,25 +86,25 @@ further_run : (w : World) (u : Use) (s : Cells) → Fit w u s → (more : Option
 further_run w u s fit None q heads h = let e : [] ≡ heads = cc in subst (λ (x : Heads). FurtherRun w.site s None (further_turns None w.site s).log x) e (record { names = refl; counted = tt; quiet = λ t. refl })
 further_run w u s fit (Some d) q heads h =
     let b = bound (at_line d.line (turns_of d.first d.last d.step w.site s)) (λ t. pure ((d.var, t) ∷ [])) heads h in
-    let l = lined d.line (turns_of d.first d.last d.step w.site s) b.a b.first in
-    let t = turns_run w u s fit d.first d.last d.step q b.a l.out in
-    let e : (d.var, b.a) ∷ [] ≡ heads = let g = b.second in cc in
+    let l = lined d.line (turns_of d.first d.last d.step w.site s) b.value b.first in
+    let t = turns_run w u s fit d.first d.last d.step q b.value l.out in
+    let e : (d.var, b.value) ∷ [] ≡ heads = let g = b.second in cc in
     subst (λ (x : Heads). FurtherRun w.site s (Some d) (further_turns (Some d) w.site s).log x) e
-    (record { names = refl; counted = (counted_of w.site s d.first d.last d.step b.a t, tt); quiet = λ x. ap (λ (l : Log). tape_after l x) b.log ∙ quiet_line w.site s d.line d.first d.last d.step b.a b.first x })
+    (record { names = refl; counted = (counted_of w.site s d.first d.last d.step b.value t, tt); quiet = λ x. ap (λ (l : Log). tape_after l x) b.log ∙ quiet_line w.site s d.line d.first d.last d.step b.value b.first x })
 
 pub heads_run : (w : World) (u : Use) (s : Cells) → Fit w u s → (d : Head) (more : Option Head) → (Literals d.first × Literals d.last × OptionLiterals d.step) → HeadLiterals more → (heads : Heads) → (heads_of d more w.site s).out ≡ Ok heads → HeadsRun w.site s d.var more (heads_of d more w.site s).log heads
 heads_run w u s fit d more q r heads h =
     let b = bound (at_line d.line (turns_of d.first d.last d.step w.site s)) (λ t. further_turns more w.site s >>= (λ hs. pure ((d.var, t) ∷ hs))) heads h in
-    let l = lined d.line (turns_of d.first d.last d.step w.site s) b.a b.first in
-    let t = turns_run w u s fit d.first d.last d.step q b.a l.out in
-    let c = bound (further_turns more w.site s) (λ hs. pure ((d.var, b.a) ∷ hs)) heads b.second in
-    let f = further_run w u s fit more r c.a c.first in
-    let e : (d.var, b.a) ∷ c.a ≡ heads = let g = c.second in cc in
+    let l = lined d.line (turns_of d.first d.last d.step w.site s) b.value b.first in
+    let t = turns_run w u s fit d.first d.last d.step q b.value l.out in
+    let c = bound (further_turns more w.site s) (λ hs. pure ((d.var, b.value) ∷ hs)) heads b.second in
+    let f = further_run w u s fit more r c.value c.first in
+    let e : (d.var, b.value) ∷ c.value ≡ heads = let g = c.second in cc in
     subst (λ (x : Heads). HeadsRun w.site s d.var more (heads_of d more w.site s).log x) e
     (record {
       names = ap (λ (l : List (List ℕ)). d.var ∷ l) f.names;
-      counted = (counted_of w.site s d.first d.last d.step b.a t, f.counted);
-      quiet = λ x. ap (λ (l : Log). tape_after l x) b.log ∙ (ap (tape_after (further_turns more w.site s >>= (λ hs. pure ((d.var, b.a) ∷ hs))).log) (quiet_line w.site s d.line d.first d.last d.step b.a b.first x) ∙ (ap (λ (l : Log). tape_after l x) c.log ∙ f.quiet x));
+      counted = (counted_of w.site s d.first d.last d.step b.value t, f.counted);
+      quiet = λ x. ap (λ (l : Log). tape_after l x) b.log ∙ (ap (tape_after (further_turns more w.site s >>= (λ hs. pure ((d.var, b.value) ∷ hs))).log) (quiet_line w.site s d.line d.first d.last d.step b.value b.first x) ∙ (ap (λ (l : Log). tape_after l x) c.log ∙ f.quiet x));
     })
 
 -- ---- the variables' values in an iteration

@@ -29,6 +29,7 @@ use Rattle.fl_types.specs.Increment.{Signed, are_free_of}
 use Rattle.meaning.specs.declared.value.Dual.{Dual}
 use Rattle.ring_core.specs.Ring.{ring_add, ring_sub}
 use Rattle.meaning.specs.Adjoints.{tangent_of}
+use Rattle.meaning.proofs.Parts.{TermsRun, bound, terms_run}
 use Rattle.transposition.specs.Tapes.{Tape, tape_after}
 use Rattle.transposition.specs.Worlds.{World, Local, value_increment, name_at}
 use Rattle.transposition.specs.Reads.{place_tree}
@@ -42,7 +43,7 @@ use Rattle.transposition.proofs.Keys.{Stands, stands}
 use Rattle.transposition.proofs.Places.{content_set_same, content_set_other, tangent_here}
 use Rattle.transposition.proofs.Tangents.{moves, signed_is}
 use Rattle.transposition.proofs.Reading.{TouchesIn, Scene, room, gets_ok, got_told, value_got, Got, got_then, got_done, got_bind, place_got, Placed, cover_both, cover_value}
-use Rattle.transposition.proofs.Bounds.{bound, Inside, inside_left, inside_right}
+use Rattle.transposition.proofs.Bounds.{Inside, inside_left, inside_right}
 use Rattle.transposition.proofs.Spreading.{silent, spreads, tangents_long}
 use Rattle.transposition.proofs.Calculus.{Sums, sums_same, sums_both, expression_sums}
 use Rattle.transposition.proofs.Taping.{wordless_terms, wordless_all}
@@ -59,21 +60,6 @@ amount (d ∷ ds) a = amount ds (cond d.0 (ring_add a d.1.value) (ring_sub a d.1
 abbrev pub drift : List (Bool × Dual) → ℕ
 drift [] = 0
 drift (d ∷ ds) = factor d.0 * d.1.tangent + drift ds
-
-pub record TermsRun (site : Site) (s : Cells) (r : Signed) (rs : List Signed) (ds : List (Bool × Dual)) : Type 0 where
-  pub v : Value
-  pub more : List (Bool × Dual)
-  pub whole : ds ≡ (r.0, as_dual v) ∷ more
-  pub first : (value_of r.1 site s).out ≡ Ok v
-  pub second : (terms_of rs site s).out ≡ Ok more
-  pub log : (terms_of (r ∷ rs) site s).log ≡ both (value_of r.1 site s).log (both (terms_of rs site s).log silence)
-
-pub terms_run : (site : Site) (s : Cells) (r : Signed) (rs : List Signed) (ds : List (Bool × Dual)) → (terms_of (r ∷ rs) site s).out ≡ Ok ds → TermsRun site s r rs ds
-terms_run site s r rs ds h =
-    let f = bound (value_of r.1 site s) (λ v. terms_of rs site s >>= (λ ds. pure ((r.0, as_dual v) ∷ ds))) ds h in
-    let g = bound (terms_of rs site s) (λ ds. pure ((r.0, as_dual f.a) ∷ ds)) ds f.second in
-    let i : (r.0, as_dual f.a) ∷ g.a ≡ ds = let j = g.second in cc in
-    record { v = f.a; more = g.a; whole = sym i; first = f.first; second = g.first; log = f.log ∙ ap (λ (l : Log). both (value_of r.1 site s).log l) g.log }
 
 value_flat : (v : Value) → (as_dual (flat_value v)).value ≡ (as_dual v).value
 value_flat (Index z) = refl
@@ -92,18 +78,18 @@ rest_got w u s vs bs t ts h (r ∷ rs) ds a q o k =
     let f = terms_run w.site s r rs ds o in
     let tl : TouchesIn (value_of r.1 w.site s).log ts × TouchesIn (both (terms_of rs w.site s).log silence) ts = split_told ts _ (value_of r.1 w.site s).log (both (terms_of rs w.site s).log silence) f.log k in
     let tr : TouchesIn (terms_of rs w.site s).log ts × TouchesIn silence ts = split_told ts (both (terms_of rs w.site s).log silence) (terms_of rs w.site s).log silence refl tl.1 in
-    let g : Got w ts c (play (value_tree r.1 w (local w.shared t vs bs)) c) (flat_value f.v) (value_of r.1 w.site s).log = gets_ok w ts c flat_value _ _ (value_of r.1 w.site s).out f.v f.first (value_got w u s vs bs t ts h r.1 q.0) in
-    rw f.whole (got_bind w ts c (value_tree r.1 w (local w.shared t vs bs)) (λ v. rest_tree w rs (cond r.0 (ring_add a (as_dual v).value) (ring_sub a (as_dual v).value)) (local w.shared t vs bs)) (flat_value f.v) _ (got_told w ts c _ _ _ tl.0 g)
-    (rw (value_flat f.v) (rest_got w u s vs bs t ts h rs f.more (cond r.0 (ring_add a (as_dual f.v).value) (ring_sub a (as_dual f.v).value)) q.1 f.second tr.0)))
+    let g : Got w ts c (play (value_tree r.1 w (local w.shared t vs bs)) c) (flat_value f.value) (value_of r.1 w.site s).log = gets_ok w ts c flat_value _ _ (value_of r.1 w.site s).out f.value f.first (value_got w u s vs bs t ts h r.1 q.0) in
+    rw f.whole (got_bind w ts c (value_tree r.1 w (local w.shared t vs bs)) (λ v. rest_tree w rs (cond r.0 (ring_add a (as_dual v).value) (ring_sub a (as_dual v).value)) (local w.shared t vs bs)) (flat_value f.value) _ (got_told w ts c _ _ _ tl.0 g)
+    (rw (value_flat f.value) (rest_got w u s vs bs t ts h rs f.more (cond r.0 (ring_add a (as_dual f.value).value) (ring_sub a (as_dual f.value).value)) q.1 f.second tr.0)))
 
 terms_sums : (w : World) (u : Use) (s : Cells) (ts : Log) → Fit w u s → (a : ℕ) (rs : List Signed) (ds : List (Bool × Dual)) → (terms_of rs w.site s).out ≡ Ok ds → Inside w ts (terms_of rs w.site s).log → KindedTerms w.site.ring rs → QuietTerms w.active u rs
     → Sums w s ts a (rest_occurrences w.active rs) (a * drift ds)
 terms_sums w u s ts fit a [] ds o ins kd q = let e : [] ≡ ds = cc in record { z = 0; sum = refl; same = of_equal _ _ (rw (← e) (omega arith)) }
 terms_sums w u s ts fit a (r ∷ rs) ds o ins kd q =
     let f = terms_run w.site s r rs ds o in
-    let one = expression_sums w u s ts fit r.1 r.0 [] a a refl (inside_left w ts _ _ _ f.log ins) kd.0 q.0 f.v f.first in
+    let one = expression_sums w u s ts fit r.1 r.0 [] a a refl (inside_left w ts _ _ _ f.log ins) kd.0 q.0 f.value f.first in
     let more = terms_sums w u s ts fit a rs f.more f.second (inside_left w ts _ _ _ refl (inside_right w ts _ _ _ f.log ins)) kd.1 q.1 in
-    rw f.whole (sums_same w s ts a _ _ _ (same_sum _ _ (a * drift f.more) (a * drift f.more) (same_product _ _ (moves f.v) (moves f.v) (signed_is r.0 a) refl) refl ∙ of_equal (factor r.0 * a * moves f.v + a * drift f.more) (a * (factor r.0 * moves f.v + drift f.more)) (omega arith))
+    rw f.whole (sums_same w s ts a _ _ _ (same_sum _ _ (a * drift f.more) (a * drift f.more) (same_product _ _ (moves f.value) (moves f.value) (signed_is r.0 a) refl) refl ∙ of_equal (factor r.0 * a * moves f.value + a * drift f.more) (a * (factor r.0 * moves f.value + drift f.more)) (omega arith))
     (sums_both w s ts a _ _ _ _ one more))
 
 -- ---- the value and the tangent of a grown cell
@@ -193,19 +179,19 @@ grow_run site s x n ds (Some q) s2 h = by_content (content s q) refl h
 pub increment_run : (site : Site) (s : Cells) (p : Designator) (rs : List Signed) (n : AccessKind) (s2 : Cells) → (increment site s p rs n).out ≡ Ok s2 → IncrementRun site s p rs n s2
 increment_run site s p rs n s2 h =
     let f = bound (inside (right_side p.name) (terms_of rs site s)) (λ ds. values_of p.subscripts site s >>= (λ vals. increment_place site s p.name n ds (place_of site p.name (whole_numbers vals)))) s2 h in
-    let g = bound (values_of p.subscripts site s) (λ vals. increment_place site s p.name n f.a (place_of site p.name (whole_numbers vals))) s2 f.second in
-    let i = grow_run site s p.name n f.a (place_of site p.name (whole_numbers g.a)) s2 g.second in
+    let g = bound (values_of p.subscripts site s) (λ vals. increment_place site s p.name n f.value (place_of site p.name (whole_numbers vals))) s2 f.second in
+    let i = grow_run site s p.name n f.value (place_of site p.name (whole_numbers g.value)) s2 g.second in
     record {
-      ds = f.a;
+      ds = f.value;
       out = f.first;
-      vals = g.a;
+      vals = g.value;
       subs = g.first;
       q = i.q;
       place = i.place;
       v = i.v;
       held = i.held;
       cells = i.cells;
-      tail = (increment_place site s p.name n f.a (place_of site p.name (whole_numbers g.a))).log;
+      tail = (increment_place site s p.name n f.value (place_of site p.name (whole_numbers g.value))).log;
       log = f.log ∙ ap (λ (l : Log). both (within (right_side p.name) (terms_of rs site s).log) l) g.log;
       covered = i.covered;
       tape = i.tape;

@@ -18,6 +18,7 @@ use Rattle.meaning.specs.Sites.{Cells, Site, place_of, kind_of, word_of, in_iter
 use Rattle.meaning.specs.Expressions.{content}
 use Rattle.meaning.specs.Statements.{Run, with_log, set_log_at, with_all_unset, unset_log, private_words, with_variables, Heads, one_iteration, run_all}
 use Rattle.fl_types.specs.Nests.{iteration_body}
+use Rattle.meaning.proofs.Parts.{Bound, bound}
 use Rattle.transposition.specs.Calms.{inner_of}
 use Rattle.transposition.proofs.RoundFacts.{RoundFacts}
 use Rattle.transposition.proofs.Words.{zero_word}
@@ -34,7 +35,6 @@ use Rattle.meaning.specs.Fitting.{HasKind}
 use Rattle.transposition.specs.Sound.{AllOwn, privates_of, writes_in}
 use Rattle.transposition.proofs.Split.{less, not_less}
 use Rattle.transposition.proofs.Places.{content_past}
-use Rattle.transposition.proofs.Bounds.{Bound, bound}
 use Rattle.transposition.proofs.Kept.{Keeps}
 use Rattle.transposition.proofs.Runs.{noted_out}
 use Rattle.transposition.proofs.Rounds.{Round, Step}
@@ -70,8 +70,8 @@ pub iter_run : (w : World) (directive : Directive) (var : List ℕ) (tree : Stat
 iter_run w directive var tree heads k s s2 h = record {
   body = sym sr.out ∙ (b.first ∙ ap (λ (c : Cells). Ok c) e);
   tape = λ t. ap (λ (l : Log). tape_after l t) log-is
-      ∙ (ap (λ (x : Tape). tape_after (private_words w.site tree names b.a) (tape_after varied.log x)) (unset_wordless w.site names t)
-      ∙ (ap (tape_after (private_words w.site tree names b.a)) (sr.tape t) ∙ ap (λ (c : Cells). tape_after (private_words w.site tree names c) (tape_after (body_run_at w directive var tree heads k s).log t)) e));
+      ∙ (ap (λ (x : Tape). tape_after (private_words w.site tree names b.value) (tape_after varied.log x)) (unset_wordless w.site names t)
+      ∙ (ap (tape_after (private_words w.site tree names b.value)) (sr.tape t) ∙ ap (λ (c : Cells). tape_after (private_words w.site tree names c) (tape_after (body_run_at w directive var tree heads k s).log t)) e));
   within = subst (λ (l : Log). Within w.active (body_run_at w directive var tree heads k s).log l) (sym log-is)
       (record { touches = λ a p i. inl (inr (sr.within.touches a p i)); differentiated = λ p i. inl (inr (sr.within.differentiated p i)) });
 }
@@ -88,13 +88,13 @@ iter_run w directive var tree heads k s s2 h = record {
     b : Bound (after (unset_log w.site names) varied) (λ c. with_log (private_words w.site tree names c) c) s2
     b = bound (after (unset_log w.site names) varied) (λ c. with_log (private_words w.site tree names c) c) s2 h
 
-    e : b.a ≡ s2
-    e = noted_out (private_words w.site tree names b.a) b.a s2 b.second
+    e : b.value ≡ s2
+    e = noted_out (private_words w.site tree names b.value) b.value s2 b.second
 
     sr : SettingRun w.site w.active varied (f (set_cells w.site (settings heads k) (with_all_unset w.site names s)))
     sr = setting_run w.site w.active heads k f (with_all_unset w.site names s)
 
-    log-is : inner_of (iteration_run w directive var tree heads k s).log ≡ both (both (unset_log w.site names) varied.log) (private_words w.site tree names b.a)
+    log-is : inner_of (iteration_run w directive var tree heads k s).log ≡ both (both (unset_log w.site names) varied.log) (private_words w.site tree names b.value)
     log-is = b.log
 
 pub own_above : (w : World) (xs : List (List ℕ)) (p : ℕ) → AllOwn w xs → has_name (name_at w.site.keys p) xs ≡ true → w.shared ≤ p

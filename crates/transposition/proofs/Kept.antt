@@ -23,6 +23,8 @@ use Rattle.meaning.specs.Sites.{Cells, Site, kind_of}
 use Rattle.meaning.specs.Expressions.{content}
 use Rattle.meaning.specs.Statements.{plain_assignment, terms_of, incremented_dual, increment, assignment_by}
 use Rattle.meaning.specs.Adjoints.{tangent_of}
+use Rattle.meaning.proofs.KindsOfValues.{below}
+use Rattle.meaning.proofs.Parts.{terms_run}
 use Rattle.transposition.specs.Worlds.{World, name_at}
 use Rattle.transposition.specs.Law.{Use, Fit}
 use Rattle.meaning.specs.Fitting.{HasKind}
@@ -30,10 +32,10 @@ use Rattle.transposition.specs.Sound.{SoundStore, SoundAssigned, UnmovedTerms}
 use Rattle.transposition.proofs.Keys.{stands}
 use Rattle.transposition.proofs.Places.{content_set_same, content_set_other}
 use Rattle.transposition.proofs.Tangents.{moves}
-use Rattle.transposition.proofs.Sizes.{below, Sized, value_sized, IsWhole, value_whole}
+use Rattle.transposition.proofs.Sizes.{Sized, value_sized, IsWhole, value_whole}
 use Rattle.transposition.proofs.Stills.{value_still}
 use Rattle.transposition.proofs.Plain.{plain_run}
-use Rattle.transposition.proofs.Increments.{increment_run, terms_run, drift, grown_tangent, ring_held, tangent_held}
+use Rattle.transposition.proofs.Increments.{increment_run, drift, grown_tangent, ring_held, tangent_held}
 
 pub record Keeps (w : World) (u : Use) (test : List ℕ → Bool) (s s2 : Cells) : Type 0 where
   pub fit : Fit w u s2
@@ -132,7 +134,7 @@ terms_still : (w : World) (u : Use) (s : Cells) → Fit w u s → (rs : List Sig
 terms_still w u s fit [] q ds h = let e : [] ≡ ds = cc in of_equal (drift ds) 0 (ap drift (sym e))
 terms_still w u s fit (r ∷ rs) q ds h =
     let f = terms_run w.site s r rs ds h in
-    rw f.whole (same_sum (factor r.0 * moves f.v) (factor r.0 * 0) (drift f.more) 0 (same_product (factor r.0) (factor r.0) (moves f.v) 0 refl (value_still w u s fit r.1 q.0 f.v f.first)) (terms_still w u s fit rs q.1 f.more f.second) ∙ of_equal (factor r.0 * 0 + 0) 0 (omega arith))
+    rw f.whole (same_sum (factor r.0 * moves f.value) (factor r.0 * 0) (drift f.more) 0 (same_product (factor r.0) (factor r.0) (moves f.value) 0 refl (value_still w u s fit r.1 q.0 f.value f.first)) (terms_still w u s fit rs q.1 f.more f.second) ∙ of_equal (factor r.0 * 0 + 0) 0 (omega arith))
 
 grown_small : (ds : List (Bool × Dual)) (d : Dual) → d.value < 2 ^ 64 → (incremented_dual ds d).value < 2 ^ 64
 grown_small [] d h = h

@@ -14,6 +14,7 @@ use Rattle.meaning.specs.Logs.{Log, within, iteration}
 use Rattle.meaning.specs.Sites.{Cells}
 use Rattle.meaning.specs.Statements.{Run, turns, Heads, iterations, words_of_all}
 use Rattle.fl_types.specs.Nests.{is_nest, further_head, iteration_body}
+use Rattle.meaning.proofs.Parts.{bound}
 use Rattle.transposition.proofs.RoundFacts.{RoundFacts}
 use Rattle.transposition.proofs.Heads.{AllCounted, head_names, below_is, heads_is, settings, AllIndex, names_set, all_index}
 use Rattle.transposition.proofs.Nesting.{unwritten}
@@ -21,7 +22,6 @@ use Rattle.transposition.specs.Tapes.{Tape, Tapes, none, more, many, empty, top_
 use Rattle.transposition.specs.Worlds.{World, Local, in_iteration}
 use Rattle.transposition.specs.Back.{variables_of, loop_variables, heads_on, below_bounds, iteration_tree, parallel_back, back_all, after_pop}
 use Rattle.transposition.specs.Law.{Use, local, flat, Like, tangents, Fit, CoverAll, Ends, Calm, AreWords}
-use Rattle.transposition.proofs.Bounds.{bound}
 use Rattle.transposition.proofs.Reading.{cover_both}
 use Rattle.transposition.proofs.Kept.{Keeps}
 use Rattle.transposition.proofs.Rounds.{Round, Step, Undo, disciplined, rounds_undone, below_by}
@@ -41,7 +41,7 @@ pub chained : (n : ℕ) (f : ℕ → Run) (s s2 : Cells) → (turns n f s).out �
 chained zero f s s2 h i k = absurd (omega arith)
 chained (suc n) f s s2 h i k =
     let b = bound (turns n f s) (f n) s2 h in
-    by_last (chained n f s b.a b.first i) (i == n) refl (ap (λ (c : Cells). (f n c).out) (state_end n f s b.a b.first) ∙ (b.second ∙ ap (λ (c : Cells). Ok c) (sym (state_end (suc n) f s s2 h))))
+    by_last (chained n f s b.value b.first i) (i == n) refl (ap (λ (c : Cells). (f n c).out) (state_end n f s b.value b.first) ∙ (b.second ∙ ap (λ (c : Cells). Ok c) (sym (state_end (suc n) f s s2 h))))
   where
     by_last : (i < n → (f i (state_at f s i)).out ≡ Ok (state_at f s (suc i))) → (c : Bool) → (i == n) ≡ c → (f n (state_at f s n)).out ≡ Ok (state_at f s (suc n)) → (f i (state_at f s i)).out ≡ Ok (state_at f s (suc i))
     by_last early true e q = let g : i ≡ n = eqb-true i n e in subst (λ (j : ℕ). (f j (state_at f s j)).out ≡ Ok (state_at f s (suc j))) (sym g) q
@@ -88,9 +88,9 @@ tapes_of : (n : ℕ) (f : ℕ → Run) (s s2 : Cells) → ((k : ℕ) (c : Cells)
 tapes_of zero f s s2 wr h = record { sized = refl; each = λ i k. absurd (omega arith) }
 tapes_of (suc n) f s s2 wr h =
     let b = bound (turns n f s) (f n) s2 h in
-    let ih = tapes_of n f s b.a wr b.first in
-    let at : b.a ≡ state_at f s n = sym (state_end n f s b.a b.first) in
-    let last-tape : iteration_tapes (f n b.a).log ≡ more (tape_after (log_at f s n) empty) none = ap (λ (c : Cells). iteration_tapes (f n c).log) at ∙ ap iteration_tapes (wr n (state_at f s n)) in
+    let ih = tapes_of n f s b.value wr b.first in
+    let at : b.value ≡ state_at f s n = sym (state_end n f s b.value b.first) in
+    let last-tape : iteration_tapes (f n b.value).log ≡ more (tape_after (log_at f s n) empty) none = ap (λ (c : Cells). iteration_tapes (f n c).log) at ∙ ap iteration_tapes (wr n (state_at f s n)) in
     let whole : iteration_tapes (turns (suc n) f s).log ≡ both_tapes (iteration_tapes (turns n f s).log) (more (tape_after (log_at f s n) empty) none) = ap iteration_tapes b.log ∙ ap (both_tapes (iteration_tapes (turns n f s).log)) last-tape in
     tapes_more f s n ih whole
 

@@ -17,13 +17,13 @@ use Rattle.meaning.specs.Conflicts.{clashes, Clash, IsClash, Reports, conflict}
 use Rattle.meaning.specs.Expressions.{holds}
 use Rattle.meaning.specs.Statements.{Run, with_log, turns_of, value_at, set_at, set_log_at, turns, loop_words, one_turn, run_turns, with_all_unset, unset_log, private_words, with_variables, Heads, iterations, heads_of, words_of_all, run_parallel, choice, in_arm, run, run_all, run_inner, run_arms}
 use Rattle.meaning.specs.Stops.{Limits, Seen, nothing_seen, Stop, at_end, over_statements, over_touches, over_words, by_conflict, unless_conflict, stop_or, stop_after}
-use Rattle.meaning.proofs.Reported.{reported}
+use Rattle.meaning.proofs.Reported.{reported, turned}
+use Rattle.meaning.proofs.Parts.{bound}
 use Rattle.transposition.specs.Worlds.{World, in_turn, in_iteration}
 use Rattle.transposition.specs.Law.{Use, HasTouch, SharedApart, Calm}
 use Rattle.transposition.specs.Calms.{inner_of, state_at, log_at, iteration_log, Pairwise, PairwiseAll, PairwiseArms, IsCalm, IsCalmAll, IsCalmArms, AreFlat}
 use Rattle.transposition.specs.Sound.{privates_of, scope_with, Sound, SoundAll, SoundArms}
 use Rattle.transposition.specs.Unstopped.{UnstoppedIsCalm}
-use Rattle.transposition.proofs.Bounds.{bound}
 use Rattle.transposition.proofs.Runs.{lined}
 use Rattle.transposition.proofs.Rounds.{below_by}
 use Rattle.transposition.proofs.Split.{less, not_less}
@@ -141,9 +141,9 @@ rounds_seen (suc n) f s s2 wr plain h since i l k p t =
     let b = bound (turns n f s) (f n) s2 h in
     let S : List Touch = since_after since (events_in 0 (turns n f s).log) in
     subst (λ (x : Log). Contains (since_after since (events_in 0 x)) (touch_of p i k)) (sym b.log)
-    (subst (λ (x : List Touch). Contains x (touch_of p i k)) (sym (since_both since (events_in 0 (turns n f s).log) (events_in 0 (f n b.a).log)))
-    (subst (λ (x : Log). Contains (since_after S (events_in 0 x)) (touch_of p i k)) (sym (wr n b.a))
-    (by_last b.a (state_end n f s b.a b.first) (λ j. rounds_seen n f s b.a wr plain b.first since i j k p t) (i == n) refl)))
+    (subst (λ (x : List Touch). Contains x (touch_of p i k)) (sym (since_both since (events_in 0 (turns n f s).log) (events_in 0 (f n b.value).log)))
+    (subst (λ (x : Log). Contains (since_after S (events_in 0 x)) (touch_of p i k)) (sym (wr n b.value))
+    (by_last b.value (state_end n f s b.value b.first) (λ j. rounds_seen n f s b.value wr plain b.first since i j k p t) (i == n) refl)))
   where
     by_last : (c : Cells) → state_at f s n ≡ c → (i < n → Contains (since_after since (events_in 0 (turns n f s).log)) (touch_of p i k)) → (b : Bool) → (i == n) ≡ b
         → Contains (since_after (since_after since (events_in 0 (turns n f s).log)) (events_in n (inner_of (f n c).log))) (touch_of p i k)
@@ -153,17 +153,6 @@ rounds_seen (suc n) f s s2 wr plain h since i l k p t =
         (plain_adds (inner_of (f n c).log) n _ k p (plain n c) (subst (λ (x : Cells). HasTouch k p (inner_of (f n x).log)) e (subst (λ (m : ℕ). HasTouch k p (log_at f s m)) same t)))
     by_last c e early false g =
         plain_keeps (inner_of (f n c).log) n _ (touch_of p i k) (plain n c) (early (below_by i n l (λ d. (let m : true ≡ false = sym (eq-eqb i n d) ∙ g in cc))))
-
-clashes_back : (k j : AccessKind) → clashes k j ≡ true → clashes j k ≡ true
-clashes_back Write Write h = refl
-clashes_back Write Update h = refl
-clashes_back Write Read h = refl
-clashes_back Update Write h = refl
-clashes_back Update Read h = refl
-clashes_back Update Update h = cc
-clashes_back Read Write h = refl
-clashes_back Read Update h = refl
-clashes_back Read Read h = cc
 
 no_clash : (ts : List Touch) → conflict ts ≡ None → (c : Clash) → IsClash ts c → ⊥
 no_clash ts h c k = none (conflict ts) h (reported ts)
@@ -181,7 +170,7 @@ apart_by ts h i j d k m p x y true e = by_order (nat_lt i j) refl
     by_order false f =
         let g : j ≤ i = not_less i j f in
         let l : j < i = omega (arith, d) in
-        absurd (no_clash ts h (record { place = p; first = j; second = i }) (record { one = m; other = k; has_one = y; has_other = x; in_order = l; kinds = clashes_back k m e }))
+        absurd (no_clash ts h (record { place = p; first = j; second = i }) (record { one = m; other = k; has_one = y; has_other = x; in_order = l; kinds = turned k m e }))
 
 -- ---- what an iteration tells is plain
 
@@ -205,8 +194,8 @@ turn_passes : (n : ℕ) (f : ℕ → Run) (s s2 : Cells) (since : List Touch) �
 turn_passes zero f s s2 since h q k l s1 e = absurd (omega arith)
 turn_passes (suc n) f s s2 since h q k l s1 e =
     let b = bound (turns n f s) (f n) s2 h in
-    let r = passes_split since (events_in 0 (turns n f s).log) (events_in 0 (f n b.a).log) (subst (λ (x : Log). Passes since (events_in 0 x)) b.log q) in
-    by_last b.a b.first b.second r.1 (λ j. turn_passes n f s b.a since b.first r.0 k j s1 e) (k == n) refl
+    let r = passes_split since (events_in 0 (turns n f s).log) (events_in 0 (f n b.value).log) (subst (λ (x : Log). Passes since (events_in 0 x)) b.log q) in
+    by_last b.value b.first b.second r.1 (λ j. turn_passes n f s b.value since b.first r.0 k j s1 e) (k == n) refl
   where
     by_last : (c : Cells) → (turns n f s).out ≡ Ok c → (f n c).out ≡ Ok s2 → Passes (since_after since (events_in 0 (turns n f s).log)) (events_in 0 (f n c).log) → (k < n → TurnPasses f k s1) → (b : Bool) → (k == n) ≡ b → TurnPasses f k s1
     by_last c first second r early true g =
@@ -231,14 +220,14 @@ loop_passes : (w : World) (line : ℕ) (var : List ℕ) (first last : Expression
     → (t : IterationCount) → (turns_of first last step w.site s).out ≡ Ok t → LoopPasses w.site var body s t
 loop_passes w line var first last step body s s2 since h q t e =
     let b = bound (at_line line (turns_of first last step w.site s)) (λ t. run_turns var (run_all body) w.site t s) s2 h in
-    let l = lined line (turns_of first last step w.site s) b.a b.first in
-    let c = bound (turns b.a.count (one_turn w.site var b.a (run_all body)) s) (with_log (loop_words b.a)) s2 b.second in
+    let l = lined line (turns_of first last step w.site s) b.value b.first in
+    let c = bound (turns b.value.count (one_turn w.site var b.value (run_all body)) s) (with_log (loop_words b.value)) s2 b.second in
     let since1 : List Touch = since_after since (events_in 0 (at_line line (turns_of first last step w.site s)).log) in
-    let q1 = passes_split since (events_in 0 (at_line line (turns_of first last step w.site s)).log) (events_in 0 (run_turns var (run_all body) w.site b.a s).log) (subst (λ (x : Log). Passes since (events_in 0 x)) b.log q) in
-    let q2 = passes_split since1 (events_in 0 (turns b.a.count (one_turn w.site var b.a (run_all body)) s).log) (events_in 0 (loop_words b.a)) (subst (λ (x : Log). Passes since1 (events_in 0 x)) c.log q1.1) in
-    let same : Ok b.a ≡ Ok t = sym l.out ∙ e in
-    let at : b.a ≡ t = cc in
-    subst (λ (x : IterationCount). LoopPasses w.site var body s x) at (record { since = since1; last = c.a; out = c.first; passes = q2.0 })
+    let q1 = passes_split since (events_in 0 (at_line line (turns_of first last step w.site s)).log) (events_in 0 (run_turns var (run_all body) w.site b.value s).log) (subst (λ (x : Log). Passes since (events_in 0 x)) b.log q) in
+    let q2 = passes_split since1 (events_in 0 (turns b.value.count (one_turn w.site var b.value (run_all body)) s).log) (events_in 0 (loop_words b.value)) (subst (λ (x : Log). Passes since1 (events_in 0 x)) c.log q1.1) in
+    let same : Ok b.value ≡ Ok t = sym l.out ∙ e in
+    let at : b.value ≡ t = cc in
+    subst (λ (x : IterationCount). LoopPasses w.site var body s x) at (record { since = since1; last = c.value; out = c.first; passes = q2.0 })
 
 record BodyPasses (w : World) (var : List ℕ) (body : Statements) (c : Cells) : Type 0 where
   pub since : List Touch
@@ -275,7 +264,7 @@ arm_calm : (p : Bool) (A B C D : Type 0) (m : ℕ) (f g : Run) (s s2 : Cells) (s
 arm_calm true A B C D m f g s s2 since h q r x y =
     let b = bound (f s) (with_log (single (pushes (Some (Index (pos m)))))) s2 h in
     let q1 = passes_split since (events_in 0 (f s).log) (events_in 0 (single (pushes (Some (Index (pos m)))))) (subst (λ (l : Log). Passes since (events_in 0 l)) b.log q) in
-    x b.a since b.first q1.0 r
+    x b.value since b.first q1.0 r
 arm_calm false A B C D m f g s s2 since h q r x y = y since h q r
 
 -- a parallel loop, by what is reported at its end
@@ -334,12 +323,12 @@ mutual
   calm_all no_statements w u s s2 since sound h q r = tt
   calm_all (statement x xs) w u s s2 since sound h q r =
       let b = bound (run x w.site s) (run_all xs w.site) s2 h in
-      let q1 = passes_split since (events_in 0 (run x w.site s).log) (events_in 0 (run_all xs w.site b.a).log) (subst (λ (l : Log). Passes since (events_in 0 l)) b.log q) in (
-        calm_one x w u s b.a since sound.0 b.first q1.0 r.0,
+      let q1 = passes_split since (events_in 0 (run x w.site s).log) (events_in 0 (run_all xs w.site b.value).log) (subst (λ (l : Log). Passes since (events_in 0 l)) b.log q) in (
+        calm_one x w u s b.value since sound.0 b.first q1.0 r.0,
         λ s1 e.
-            let same : Ok b.a ≡ Ok s1 = sym b.first ∙ e in
-            let at : b.a ≡ s1 = cc in
-            subst (λ (c : Cells). IsCalmAll xs w c) at (calm_all xs w u b.a s2 (since_after since (events_in 0 (run x w.site s).log)) sound.1 b.second q1.1 (r.1 b.a b.first)),
+            let same : Ok b.value ≡ Ok s1 = sym b.first ∙ e in
+            let at : b.value ≡ s1 = cc in
+            subst (λ (c : Cells). IsCalmAll xs w c) at (calm_all xs w u b.value s2 (since_after since (events_in 0 (run x w.site s).log)) sound.1 b.second q1.1 (r.1 b.value b.first)),
       )
 
   calm_arms : (arms : Arms) (line m : ℕ) (others : Statements) (w : World) (u : Use) (s s2 : Cells) (since : List Touch) → SoundArms w u arms
@@ -348,15 +337,15 @@ mutual
   calm_arms no_arms line m others w u s s2 since sound more h q r =
       let b = bound (run_all others w.site s) (with_log (single (pushes (Some (Index (pos m)))))) s2 h in
       let q1 = passes_split since (events_in 0 (run_all others w.site s).log) (events_in 0 (single (pushes (Some (Index (pos m)))))) (subst (λ (l : Log). Passes since (events_in 0 l)) b.log q) in
-      more b.a since b.first q1.0 r
+      more b.value since b.first q1.0 r
   calm_arms (arm test body arms) line m others w u s s2 since sound more h q r =
       let b = bound (inside (condition m) (at_line line (holds test w.site s))) (λ p. choice p (in_arm m (run_all body w.site)) (run_arms arms line (m + 1) (run_all others) w.site) s) s2 h in
-      let l = lined line (holds test w.site s) b.a b.first in
+      let l = lined line (holds test w.site s) b.value b.first in
       let since1 : List Touch = since_after since (events_in 0 (at_line line (holds test w.site s)).log) in
-      let q1 = passes_split since (events_in 0 (at_line line (holds test w.site s)).log) (events_in 0 (choice b.a (in_arm m (run_all body w.site)) (run_arms arms line (m + 1) (run_all others) w.site) s).log) (subst (λ (l : Log). Passes since (events_in 0 l)) b.log q) in
+      let q1 = passes_split since (events_in 0 (at_line line (holds test w.site s)).log) (events_in 0 (choice b.value (in_arm m (run_all body w.site)) (run_arms arms line (m + 1) (run_all others) w.site) s).log) (subst (λ (l : Log). Passes since (events_in 0 l)) b.log q) in
       λ p e.
-      let same : Ok b.a ≡ Ok p = sym l.out ∙ e in
-      let at : b.a ≡ p = cc in
+      let same : Ok b.value ≡ Ok p = sym l.out ∙ e in
+      let at : b.value ≡ p = cc in
       arm_calm p (IsCalmAll body w s) (IsCalmArms arms (IsCalmAll others w s) w s) (PairwiseAll SharedApart body w s) (PairwiseArms SharedApart arms (PairwiseAll SharedApart others w s) w s) m (run_all body w.site) (run_arms arms line (m + 1) (run_all others) w.site) s s2 since1
       (subst (λ (c : Bool). (choice c (in_arm m (run_all body w.site)) (run_arms arms line (m + 1) (run_all others) w.site) s).out ≡ Ok s2) at b.second)
       (subst (λ (c : Bool). Passes since1 (events_in 0 (choice c (in_arm m (run_all body w.site)) (run_arms arms line (m + 1) (run_all others) w.site) s).log)) at q1.1)

@@ -23,6 +23,7 @@ use Rattle.meaning.specs.Sites.{Key, Cells, Site, with_tangent, place_of, kind_o
 use Rattle.meaning.specs.Expressions.{content, value_of, values_of}
 use Rattle.meaning.specs.Statements.{store_at, put, plain_assignment}
 use Rattle.meaning.specs.Adjoints.{tangent_of}
+use Rattle.meaning.proofs.Parts.{bound}
 use Rattle.transposition.specs.Tapes.{Tape, word, tape_after, top}
 use Rattle.transposition.specs.Worlds.{World, Local, adjoint_load, adjoint_store, value_store, is_one_step, is_reduction, name_at}
 use Rattle.transposition.specs.Reads.{place_tree}
@@ -37,7 +38,7 @@ use Rattle.transposition.proofs.Keys.{Stands, stands}
 use Rattle.transposition.proofs.Places.{content_set_other, tangents_set}
 use Rattle.transposition.proofs.Tangents.{moves}
 use Rattle.transposition.proofs.Reading.{TouchesIn, Scene, room, Got, got_then, got_bind, place_got, Placed, cover_both, cover_value, cover_adjoint}
-use Rattle.transposition.proofs.Bounds.{bound, Inside}
+use Rattle.transposition.proofs.Bounds.{Inside}
 use Rattle.transposition.proofs.Spreading.{silent, spreads, tangents_long}
 use Rattle.transposition.proofs.Calculus.{Sums, expression_sums}
 use Rattle.transposition.proofs.Taping.{wordless, wordless_all}
@@ -156,17 +157,17 @@ put_run site s x v (Some q) s2 h = by_tests (site.accessed x) (site.pushed x) re
 pub plain_run : (site : Site) (s : Cells) (p : Designator) (e : Expression) (s2 : Cells) → (plain_assignment site s p e).out ≡ Ok s2 → PlainRun site s p e s2
 plain_run site s p e s2 h =
     let f = bound (inside (right_side p.name) (value_of e site s)) (λ v. values_of p.subscripts site s >>= (λ vals. put site s p.name v (place_of site p.name (whole_numbers vals)))) s2 h in
-    let g = bound (values_of p.subscripts site s) (λ vals. put site s p.name f.a (place_of site p.name (whole_numbers vals))) s2 f.second in
-    let i = put_run site s p.name f.a (place_of site p.name (whole_numbers g.a)) s2 g.second in
+    let g = bound (values_of p.subscripts site s) (λ vals. put site s p.name f.value (place_of site p.name (whole_numbers vals))) s2 f.second in
+    let i = put_run site s p.name f.value (place_of site p.name (whole_numbers g.value)) s2 g.second in
     record {
-      v = f.a;
+      v = f.value;
       out = f.first;
-      vals = g.a;
+      vals = g.value;
       subs = g.first;
       q = i.q;
       place = i.place;
       cells = i.cells;
-      tail = (put site s p.name f.a (place_of site p.name (whole_numbers g.a))).log;
+      tail = (put site s p.name f.value (place_of site p.name (whole_numbers g.value))).log;
       log = f.log ∙ ap (λ (l : Log). both (within (right_side p.name) (value_of e site s).log) l) g.log;
       covered = i.covered;
       tape = i.tape;

@@ -12,12 +12,12 @@ use Rattle.meaning.specs.Logs.{Log, Traced, pure, lift, at_line, at_line_by, ◌
 use Rattle.meaning.specs.Sites.{Cells, Site, kind_of}
 use Rattle.meaning.specs.Expressions.{value_of}
 use Rattle.meaning.specs.Statements.{Run, with_log, turns_by, step_value, turns_of, value_at, set_at, turns, one_turn}
+use Rattle.meaning.proofs.Parts.{bound}
 use Rattle.transposition.specs.Worlds.{World, in_turn}
 use Rattle.transposition.specs.Law.{Use, Fit}
 use Rattle.meaning.specs.Fitting.{HasKind}
 use Rattle.transposition.specs.Sound.{OptionLiterals, Literals, SoundVariable, scope_with}
 use Rattle.transposition.proofs.Keys.{stands}
-use Rattle.transposition.proofs.Bounds.{bound}
 use Rattle.transposition.proofs.Sizes.{Sized, value_sized}
 use Rattle.std.specs.Ordering.{int_eq}
 use Rattle.std.specs.Prelude.{int_div, ◌-ℤ◌}
@@ -67,9 +67,9 @@ turns_made site s first last step a b c t ia ib ic h = by_test (int_eq c (pos 0)
 pub turns_run : (w : World) (u : Use) (s : Cells) → Fit w u s → (first last : Expression) (step : Option Expression) → Literals first × Literals last × OptionLiterals step → (t : IterationCount) → (turns_of first last step w.site s).out ≡ Ok t → TurnsRun w.site s first last step t
 turns_run w u s fit first last step q t h =
     let f = bound (value_of first w.site s) (λ a. value_of last w.site s >>= (λ b. step_value step w.site s >>= (λ c. turns_by (whole_number a) (whole_number b) (whole_number c)))) t h in
-    let g = bound (value_of last w.site s) (λ b. step_value step w.site s >>= (λ c. turns_by (whole_number f.a) (whole_number b) (whole_number c))) t f.second in
-    let i = bound (step_value step w.site s) (λ c. turns_by (whole_number f.a) (whole_number g.a) (whole_number c)) t g.second in
-    turns_made w.site s first last step (whole_number f.a) (whole_number g.a) (whole_number i.a) t (whole_sized f.a (value_sized w u s fit first q.0 f.a f.first)) (whole_sized g.a (value_sized w u s fit last q.1 g.a g.first)) (whole_sized i.a (step_sized w u s fit step q.2 i.a i.first)) i.second
+    let g = bound (value_of last w.site s) (λ b. step_value step w.site s >>= (λ c. turns_by (whole_number f.value) (whole_number b) (whole_number c))) t f.second in
+    let i = bound (step_value step w.site s) (λ c. turns_by (whole_number f.value) (whole_number g.value) (whole_number c)) t g.second in
+    turns_made w.site s first last step (whole_number f.value) (whole_number g.value) (whole_number i.value) t (whole_sized f.value (value_sized w u s fit first q.0 f.value f.first)) (whole_sized g.value (value_sized w u s fit last q.1 g.value g.first)) (whole_sized i.value (step_sized w u s fit step q.2 i.value i.first)) i.second
 
 -- ---- a turn
 
@@ -114,6 +114,6 @@ pub turns_kept : (w : World) (u : Use) (test : List ℕ → Bool) (n : ℕ) (f :
 turns_kept w u test zero f step s s2 fit h = let e : s ≡ s2 = cc in subst (λ (x : Cells). Keeps w u test s x) e (keeps_itself w u test s fit)
 turns_kept w u test (suc n) f step s s2 fit h =
     let b = bound (turns n f s) (f n) s2 h in
-    let one = turns_kept w u test n f (λ k i. step k (omega arith)) s b.a fit b.first in
-    let more = step n (omega arith) b.a s2 one.fit b.second in
-    keeps_wider w u (λ x. test x || test x) test s s2 (λ x e. rw e refl) (keeps_both w u test test s b.a s2 one more)
+    let one = turns_kept w u test n f (λ k i. step k (omega arith)) s b.value fit b.first in
+    let more = step n (omega arith) b.value s2 one.fit b.second in
+    keeps_wider w u (λ x. test x || test x) test s s2 (λ x e. rw e refl) (keeps_both w u test test s b.value s2 one more)

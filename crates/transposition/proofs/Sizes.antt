@@ -21,13 +21,15 @@ use Rattle.meaning.specs.Values.{Found, of_index, dual_pow, as_dual, rank, liter
 use Rattle.meaning.specs.Logs.{lift, ◌>>=◌}
 use Rattle.meaning.specs.Sites.{Cells, place_of, kind_of}
 use Rattle.meaning.specs.Expressions.{read, value_of, values_of}
+use Rattle.meaning.proofs.KindsOfValues.{IndexFits, fitted_fits, div_fits, index_rem_fits, below, pow_below}
+use Rattle.meaning.proofs.Parts.{bound, listed}
 use Rattle.transposition.specs.Worlds.{World, name_at}
 use Rattle.meaning.specs.Values.{whole_numbers}
 use Rattle.transposition.specs.Law.{Use, Fit}
 use Rattle.meaning.specs.Fitting.{HasKind}
 use Rattle.transposition.specs.Sound.{Literals, LiteralsAll, Whole, WholeAll}
 use Rattle.transposition.proofs.Keys.{stands}
-use Rattle.transposition.proofs.Bounds.{bound, read_inverted, listed}
+use Rattle.transposition.proofs.Bounds.{read_inverted}
 
 abbrev pub Sized : Value → Type 0
 Sized (Index z) = IsIndex z
@@ -37,37 +39,13 @@ abbrev pub SizedFound : Found → Type 0
 SizedFound (Ok v) = Sized v
 SizedFound (Err c) = Unit {0}
 
-abbrev SizedIndex : Result ℤ IndexTrap → Type 0
-SizedIndex (Ok z) = IsIndex z
-SizedIndex (Err t) = Unit {0}
-
 sized_of : (r : Found) (v : Value) → r ≡ Ok v → SizedFound r → Sized v
 sized_of (Ok x) v e h = let g : x ≡ v = cc in subst Sized g h
 sized_of (Err c) v e h = cc
 
-of_index_sized : (r : Result ℤ IndexTrap) → SizedIndex r → SizedFound (of_index r)
+of_index_sized : (r : Result ℤ IndexTrap) → IndexFits r → SizedFound (of_index r)
 of_index_sized (Ok z) h = h
 of_index_sized (Err t) h = tt
-
-fitted_sized : (z : ℤ) → SizedIndex (exact_index z)
-unfolding exact_index
-fitted_sized z = by_test (fits_index z) refl
-  where
-    by_test : (b : Bool) → fits_index z ≡ b → SizedIndex (if b then Ok z else Err index_trap.Range)
-    by_test true e = e
-    by_test false e = tt
-
-unless_sized : (b : ℤ) (r : Result ℤ IndexTrap) → SizedIndex r → SizedIndex (unless_zero b r)
-unless_sized (pos zero) r h = tt
-unless_sized (pos (suc n)) r h = h
-unless_sized (negsuc n) r h = h
-
-div_sized : (a b : ℤ) → SizedIndex (index_div a b)
-unfolding index_div
-div_sized a b = unless_sized b (exact_index (int_div a b)) (fitted_sized (int_div a b))
-
-pub below : (x : ℕ) → x % 2 ^ 64 < 2 ^ 64
-below x = omega arith
 
 ring_sized : (op : BinOp) (a b : Dual) → SizedFound (ring_result op a b)
 ring_sized Add a b = below (a.value + b.value)
@@ -76,46 +54,24 @@ ring_sized Mul a b = below (a.value * b.value)
 ring_sized Div a b = tt
 
 binary_sized : (op : BinOp) (v w : Value) → SizedFound (binary_result op v w)
-binary_sized Add (Index a) (Index b) = of_index_sized (exact_index (a +ℤ b)) (fitted_sized (a +ℤ b))
-binary_sized Sub (Index a) (Index b) = of_index_sized (exact_index (a -ℤ b)) (fitted_sized (a -ℤ b))
-binary_sized Mul (Index a) (Index b) = of_index_sized (exact_index (a *ℤ b)) (fitted_sized (a *ℤ b))
-binary_sized Div (Index a) (Index b) = of_index_sized (index_div a b) (div_sized a b)
+binary_sized Add (Index a) (Index b) = of_index_sized (exact_index (a +ℤ b)) (fitted_fits (a +ℤ b))
+binary_sized Sub (Index a) (Index b) = of_index_sized (exact_index (a -ℤ b)) (fitted_fits (a -ℤ b))
+binary_sized Mul (Index a) (Index b) = of_index_sized (exact_index (a *ℤ b)) (fitted_fits (a *ℤ b))
+binary_sized Div (Index a) (Index b) = of_index_sized (index_div a b) (div_fits a b)
 binary_sized op (Index a) (Ring b) = ring_sized op (as_dual (Index a)) b
 binary_sized op (Ring a) (Index b) = ring_sized op a (as_dual (Index b))
 binary_sized op (Ring a) (Ring b) = ring_sized op a b
 
 negated_sized : (v : Value) → SizedFound (negation_result v)
-negated_sized (Index a) = of_index_sized (exact_index (neg_ℤ a)) (fitted_sized (neg_ℤ a))
+negated_sized (Index a) = of_index_sized (exact_index (neg_ℤ a)) (fitted_fits (neg_ℤ a))
 negated_sized (Ring d) = below (18446744073709551615 * d.value)
 
-pow_sized : (d : Dual) (n : ℕ) → (dual_pow d n).value < 2 ^ 64
-pow_sized d zero = omega arith
-pow_sized d (suc n) = below ((dual_pow d n).value * d.value)
-
 power_sized : (v : Value) (n : ℕ) → SizedFound (power_result v n)
-power_sized (Index a) n = of_index_sized (exact_index (int_pow a n)) (fitted_sized (int_pow a n))
-power_sized (Ring d) n = pow_sized d n
-
-mod_le : (a b : ℕ) → a % b ≤ a
-mod_le a zero = omega arith
-mod_le a (suc b) = omega arith
-
-neg_fits : (x : ℕ) → x ≤ 2147483648 → fits_index (neg_ℤ (pos x)) ≡ true
-neg_fits zero h = refl
-neg_fits (suc x) h = grind (arith, nat_tests)
-
-rem_below : (a b : ℕ) → a < 2147483648 → a % b < 2147483648
-rem_below a b h = let e = mod_le a b in omega arith
-
-rem_fits : (a b : ℤ) → IsIndex a → IsIndex (int_rem a b)
-rem_fits (pos a) (pos b) h = let i : a < 2147483648 = grind (arith, nat_tests) in let j = rem_below a b i in grind (arith, nat_tests)
-rem_fits (pos a) (negsuc b) h = let i : a < 2147483648 = grind (arith, nat_tests) in let j = rem_below a (suc b) i in grind (arith, nat_tests)
-rem_fits (negsuc a) (pos b) h = neg_fits (suc a % b) (let i : a < 2147483648 = grind (arith, nat_tests) in let e = mod_le (suc a) b in omega arith)
-rem_fits (negsuc a) (negsuc b) h = neg_fits (suc a % suc b) (let i : a < 2147483648 = grind (arith, nat_tests) in let e = mod_le (suc a) (suc b) in omega arith)
+power_sized (Index a) n = of_index_sized (exact_index (int_pow a n)) (fitted_fits (int_pow a n))
+power_sized (Ring d) n = pow_below d n
 
 remainder_sized : (v w : Value) → Sized v → SizedFound (remainder v w)
-unfolding index_rem
-remainder_sized (Index a) (Index b) h = of_index_sized (index_rem a b) (unless_sized b (Ok (int_rem a b)) (rem_fits a b h))
+remainder_sized (Index a) (Index b) h = of_index_sized (index_rem a b) (index_rem_fits a b h)
 remainder_sized (Index a) (Ring b) h = tt
 remainder_sized (Ring a) b h = tt
 
@@ -159,34 +115,34 @@ has_sized kind.Index (Ring d) h = absurd h
 
 literal_sized : (n : ℕ) (k : Kind) → Literals (literal n k) → SizedFound (literal_value n k)
 literal_sized n kind.Ring h = h
-literal_sized n kind.Index h = of_index_sized (exact_index (pos n)) (fitted_sized (pos n))
+literal_sized n kind.Index h = of_index_sized (exact_index (pos n)) (fitted_fits (pos n))
 
 mutual
   pub value_sized : (w : World) (u : Use) (s : Cells) → Fit w u s → (e : Expression) → Literals e → (v : Value) → (value_of e w.site s).out ≡ Ok v → Sized v
   value_sized w u s fit (literal n k) q v h = sized_of (literal_value n k) v h (literal_sized n k q)
   value_sized w u s fit (get x ss) q v h =
       let f = bound (values_of ss w.site s) (read w.site s x) v h in
-      let at = read_inverted w.site s x (place_of w.site x (whole_numbers f.a)) v f.second in
+      let at = read_inverted w.site s x (place_of w.site x (whole_numbers f.value)) v f.second in
       has_sized (kind_of w.site (name_at w.site.keys at.p)) v (fit.kinds at.p v at.holds)
   value_sized w u s fit (minus a) q v h =
       let f = bound (value_of a w.site s) (λ x. lift (negation_result x)) v h in
-      sized_of (negation_result f.a) v f.second (negated_sized f.a)
+      sized_of (negation_result f.value) v f.second (negated_sized f.value)
   value_sized w u s fit (binary op a b) q v h =
       let f = bound (value_of a w.site s) (λ x. value_of b w.site s >>= (λ y. lift (binary_result op x y))) v h in
-      let g = bound (value_of b w.site s) (λ y. lift (binary_result op f.a y)) v f.second in
-      sized_of (binary_result op f.a g.a) v g.second (binary_sized op f.a g.a)
+      let g = bound (value_of b w.site s) (λ y. lift (binary_result op f.value y)) v f.second in
+      sized_of (binary_result op f.value g.value) v g.second (binary_sized op f.value g.value)
   value_sized w u s fit (power a n) q v h =
       let f = bound (value_of a w.site s) (λ x. lift (power_result x n)) v h in
-      sized_of (power_result f.a n) v f.second (power_sized f.a n)
+      sized_of (power_result f.value n) v f.second (power_sized f.value n)
   value_sized w u s fit (call c es) q v h =
       let f = bound (values_of es w.site s) (λ vs. lift (call_result w.site.width c vs)) v h in
-      sized_of (call_result w.site.width c f.a) v f.second (call_sized w.site.width c f.a (values_sized w u s fit es q f.a f.first))
+      sized_of (call_result w.site.width c f.value) v f.second (call_sized w.site.width c f.value (values_sized w u s fit es q f.value f.first))
 
   values_sized : (w : World) (u : Use) (s : Cells) → Fit w u s → (es : Expressions) → LiteralsAll es → (vs : List Value) → (values_of es w.site s).out ≡ Ok vs → AllSized vs
   values_sized w u s fit no_expressions q vs h = let e : [] ≡ vs = cc in subst AllSized e tt
   values_sized w u s fit (expression e es) q vs h =
       let f = listed w.site s e es vs h in
-      subst AllSized (sym f.whole) (value_sized w u s fit e q.0 f.v f.first, values_sized w u s fit es q.1 f.more f.second)
+      subst AllSized (sym f.whole) (value_sized w u s fit e q.0 f.value f.first, values_sized w u s fit es q.1 f.more f.second)
 
 -- ---- of the index kind
 
@@ -273,25 +229,25 @@ mutual
   value_whole w u s fit (literal n k) q v h = whole_of (literal_value n k) v h (literal_whole w.site.ring n k q)
   value_whole w u s fit (get x ss) q v h =
       let f = bound (values_of ss w.site s) (read w.site s x) v h in
-      let at = read_inverted w.site s x (place_of w.site x (whole_numbers f.a)) v f.second in
-      let st = stands w.site.keys x (whole_numbers f.a) at.p at.place in
+      let at = read_inverted w.site s x (place_of w.site x (whole_numbers f.value)) v f.second in
+      let st = stands w.site.keys x (whole_numbers f.value) at.p at.place in
       index_held (kind_of w.site x) v (rw q refl) (subst (λ (y : List ℕ). HasKind (kind_of w.site y) v) st.named (fit.kinds at.p v at.holds))
   value_whole w u s fit (minus a) q v h =
       let f = bound (value_of a w.site s) (λ x. lift (negation_result x)) v h in
-      whole_of (negation_result f.a) v f.second (negated_whole f.a (value_whole w u s fit a q f.a f.first))
+      whole_of (negation_result f.value) v f.second (negated_whole f.value (value_whole w u s fit a q f.value f.first))
   value_whole w u s fit (binary op a b) q v h =
       let f = bound (value_of a w.site s) (λ x. value_of b w.site s >>= (λ y. lift (binary_result op x y))) v h in
-      let g = bound (value_of b w.site s) (λ y. lift (binary_result op f.a y)) v f.second in
-      whole_of (binary_result op f.a g.a) v g.second (binary_whole op f.a g.a (value_whole w u s fit a q.0 f.a f.first) (value_whole w u s fit b q.1 g.a g.first))
+      let g = bound (value_of b w.site s) (λ y. lift (binary_result op f.value y)) v f.second in
+      whole_of (binary_result op f.value g.value) v g.second (binary_whole op f.value g.value (value_whole w u s fit a q.0 f.value f.first) (value_whole w u s fit b q.1 g.value g.first))
   value_whole w u s fit (power a n) q v h =
       let f = bound (value_of a w.site s) (λ x. lift (power_result x n)) v h in
-      whole_of (power_result f.a n) v f.second (power_whole f.a n (value_whole w u s fit a q f.a f.first))
+      whole_of (power_result f.value n) v f.second (power_whole f.value n (value_whole w u s fit a q f.value f.first))
   value_whole w u s fit (call c es) q v h =
       let f = bound (values_of es w.site s) (λ vs. lift (call_result w.site.width c vs)) v h in
-      whole_of (call_result w.site.width c f.a) v f.second (call_whole w.site.width c f.a (values_whole w u s fit es q f.a f.first))
+      whole_of (call_result w.site.width c f.value) v f.second (call_whole w.site.width c f.value (values_whole w u s fit es q f.value f.first))
 
   values_whole : (w : World) (u : Use) (s : Cells) → Fit w u s → (es : Expressions) → WholeAll w.site.ring es → (vs : List Value) → (values_of es w.site s).out ≡ Ok vs → AllWhole vs
   values_whole w u s fit no_expressions q vs h = let e : [] ≡ vs = cc in subst AllWhole e tt
   values_whole w u s fit (expression e es) q vs h =
       let f = listed w.site s e es vs h in
-      subst AllWhole (sym f.whole) (value_whole w u s fit e q.0 f.v f.first, values_whole w u s fit es q.1 f.more f.second)
+      subst AllWhole (sym f.whole) (value_whole w u s fit e q.0 f.value f.first, values_whole w u s fit es q.1 f.more f.second)

@@ -17,12 +17,13 @@ use Rattle.meaning.specs.Logs.{lift, ◌>>=◌}
 use Rattle.meaning.specs.Sites.{Cells, place_of}
 use Rattle.meaning.specs.Expressions.{read, value_of, values_of}
 use Rattle.meaning.specs.Adjoints.{tangent_of}
+use Rattle.meaning.proofs.Parts.{bound, listed}
 use Rattle.transposition.specs.Worlds.{World}
 use Rattle.transposition.specs.Law.{Use, Fit}
 use Rattle.transposition.specs.Needs.{QuietAll}
 use Rattle.transposition.specs.Sound.{Unmoved}
 use Rattle.transposition.proofs.Keys.{stands}
-use Rattle.transposition.proofs.Bounds.{bound, read_inverted, listed}
+use Rattle.transposition.proofs.Bounds.{read_inverted}
 use Rattle.transposition.proofs.Tangents.{worth, moves, moves_is, moves_of, sum_of, binary_moves, negated_moves, power_none, power_some, power_index, literal_moves}
 use Rattle.transposition.proofs.Calculus.{remainder_still}
 
@@ -73,25 +74,25 @@ mutual
   value_still w u s fit (literal n k) q v h = of_equal (moves v) 0 (moves_of (literal_value n k) (λ m. m ≡ 0) v h (literal_moves n k))
   value_still w u s fit (get x ss) q v h =
       let f = bound (values_of ss w.site s) (read w.site s x) v h in
-      let at = read_inverted w.site s x (place_of w.site x (whole_numbers f.a)) v f.second in
-      let st = stands w.site.keys x (whole_numbers f.a) at.p at.place in
+      let at = read_inverted w.site s x (place_of w.site x (whole_numbers f.value)) v f.second in
+      let st = stands w.site.keys x (whole_numbers f.value) at.p at.place in
       subst (λ (m : ℕ). Same m 0) (ap tangent_of at.holds ∙ moves_is v) (fit.still at.p (ap u.moved st.named ∙ q refl))
   value_still w u s fit (minus a) q v h =
       let f = bound (value_of a w.site s) (λ x. lift (negation_result x)) v h in
-      moves_of (negation_result f.a) (λ m. Same m (last * moves f.a)) v f.second (negated_moves f.a) ∙ (same_product last last (moves f.a) 0 refl (value_still w u s fit a q f.a f.first) ∙ of_equal (last * 0) 0 (omega arith))
+      moves_of (negation_result f.value) (λ m. Same m (last * moves f.value)) v f.second (negated_moves f.value) ∙ (same_product last last (moves f.value) 0 refl (value_still w u s fit a q f.value f.first) ∙ of_equal (last * 0) 0 (omega arith))
   value_still w u s fit (binary op a b) q v h =
       let f = bound (value_of a w.site s) (λ x. value_of b w.site s >>= (λ y. lift (binary_result op x y))) v h in
-      let g = bound (value_of b w.site s) (λ y. lift (binary_result op f.a y)) v f.second in
-      moves_of (binary_result op f.a g.a) (λ m. Same m (sum_of op f.a g.a)) v g.second (binary_moves op f.a g.a) ∙ sum_still op f.a g.a (value_still w u s fit a q.0 f.a f.first) (value_still w u s fit b q.1 g.a g.first)
+      let g = bound (value_of b w.site s) (λ y. lift (binary_result op f.value y)) v f.second in
+      moves_of (binary_result op f.value g.value) (λ m. Same m (sum_of op f.value g.value)) v g.second (binary_moves op f.value g.value) ∙ sum_still op f.value g.value (value_still w u s fit a q.0 f.value f.first) (value_still w u s fit b q.1 g.value g.first)
   value_still w u s fit (power a n) q v h =
       let f = bound (value_of a w.site s) (λ x. lift (power_result x n)) v h in
-      power_still f.a v n (value_still w u s fit a q f.a f.first) f.second
+      power_still f.value v n (value_still w u s fit a q f.value f.first) f.second
   value_still w u s fit (call c es) q v h =
       let f = bound (values_of es w.site s) (λ vs. lift (call_result w.site.width c vs)) v h in
-      call_still w.site.width c f.a v (values_still w u s fit es q f.a f.first) f.second
+      call_still w.site.width c f.value v (values_still w u s fit es q f.value f.first) f.second
 
   values_still : (w : World) (u : Use) (s : Cells) → Fit w u s → (es : Expressions) → QuietAll (λ x. false) u es → (vs : List Value) → (values_of es w.site s).out ≡ Ok vs → AllStill vs
   values_still w u s fit no_expressions q vs h = let e : [] ≡ vs = cc in subst AllStill e tt
   values_still w u s fit (expression e es) q vs h =
       let f = listed w.site s e es vs h in
-      subst AllStill (sym f.whole) (value_still w u s fit e q.0 f.v f.first, values_still w u s fit es q.1 f.more f.second)
+      subst AllStill (sym f.whole) (value_still w u s fit e q.0 f.value f.first, values_still w u s fit es q.1 f.more f.second)

@@ -19,12 +19,12 @@ use Rattle.meaning.specs.Logs.{Log, Traced, pure, lift, after, instance, taken, 
 use Rattle.meaning.specs.Sites.{Cells, Site}
 use Rattle.meaning.specs.Expressions.{content, value_of}
 use Rattle.meaning.specs.Statements.{Run, assignment_by, turns_by, step_value, turns_of, value_at, set_at, set_log_at, turns, choice, in_arm, run_all, run_arms}
+use Rattle.meaning.proofs.Parts.{bound}
 use Rattle.transposition.specs.Worlds.{World, name_at, in_turn}
 use Rattle.transposition.specs.Law.{Use, Fit, Like, Within, flat, local, Ends, Undoes}
 use Rattle.transposition.specs.Sound.{SoundVariable, SoundAssigned, scope_with}
 use Rattle.transposition.proofs.Keys.{stands}
 use Rattle.transposition.proofs.Places.{content_set_other}
-use Rattle.transposition.proofs.Bounds.{bound}
 use Rattle.transposition.proofs.Plain.{plain_undone, tangents_off}
 use Rattle.transposition.proofs.Increments.{increment_undone}
 use Rattle.std.specs.Ordering.{int_eq}
@@ -153,10 +153,10 @@ pub turns_undone : (w : World) (u : Use) (ts : Log) (test : List ℕ → Bool) (
 turns_undone w u ts test zero f g keep step s s2 t fit ins h = undone_none w u ts t s s2 (let e : s ≡ s2 = cc in e)
 turns_undone w u ts test (suc n) f g keep step s s2 t fit ins h =
     let b = bound (turns n f s) (f n) s2 h in
-    let one = turns_kept w u test n f (λ k i. keep k (omega arith)) s b.a fit b.first in
-    let first = turns_undone w u ts test n f g (λ k i. keep k (omega arith)) (λ k i. step k (omega arith)) s b.a t fit (within_left w.active _ _ _ ts b.log ins) b.first in
-    let second = step n (omega arith) b.a s2 (tape_after (turns n f s).log t) one.fit (within_right w.active _ _ _ ts b.log ins) b.second in
-    undone_tape w u ts (turns_back (suc n) g) t _ _ s s2 (ap (λ (l : Log). tape_after l t) (sym b.log)) (undone_both w u ts (turns_back n g) (g n) t (tape_after (turns n f s).log t) _ s b.a s2 first second)
+    let one = turns_kept w u test n f (λ k i. keep k (omega arith)) s b.value fit b.first in
+    let first = turns_undone w u ts test n f g (λ k i. keep k (omega arith)) (λ k i. step k (omega arith)) s b.value t fit (within_left w.active _ _ _ ts b.log ins) b.first in
+    let second = step n (omega arith) b.value s2 (tape_after (turns n f s).log t) one.fit (within_right w.active _ _ _ ts b.log ins) b.second in
+    undone_tape w u ts (turns_back (suc n) g) t _ _ s s2 (ap (λ (l : Log). tape_after l t) (sym b.log)) (undone_both w u ts (turns_back n g) (g n) t (tape_after (turns n f s).log t) _ s b.value s2 first second)
 
 -- the variable's word, set again in a turn
 variable_like : (w : World) (u : Use) (var : List ℕ) (first last : Expression) (step : Option Expression) (v : SoundVariable w u var first last step) (z : ℤ) (vs : List ℕ) (s2 : Cells) → v.q < length vs → content s2 v.q ≡ Some (Index z)

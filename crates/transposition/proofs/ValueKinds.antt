@@ -22,12 +22,13 @@ use Rattle.meaning.specs.Values.{Found, of_index, as_dual, rank, whole_numbers, 
 use Rattle.meaning.specs.Logs.{lift, ◌>>=◌}
 use Rattle.meaning.specs.Sites.{Cells, place_of, kind_of}
 use Rattle.meaning.specs.Expressions.{read, value_of, values_of}
+use Rattle.meaning.proofs.Parts.{bound, listed}
 use Rattle.transposition.specs.Worlds.{World}
 use Rattle.transposition.specs.Law.{Use, Fit}
 use Rattle.meaning.specs.Fitting.{HasKind}
 use Rattle.transposition.specs.Needs.{is_data, has_data, PairOfOneKind, Kinded, KindedAll}
 use Rattle.transposition.proofs.Keys.{stands}
-use Rattle.transposition.proofs.Bounds.{bound, read_inverted, listed}
+use Rattle.transposition.proofs.Bounds.{read_inverted}
 
 abbrev pub is_ring : Value → Bool
 is_ring (Index z) = false
@@ -156,55 +157,55 @@ mutual
   value_kind w u s fit (literal n k) q v h = kind_of_found (literal_value n k) v _ h (literal_found w.site.ring n k)
   value_kind w u s fit (get x ss) q v h =
       let f = bound (values_of ss w.site s) (read w.site s x) v h in
-      let at = read_inverted w.site s x (place_of w.site x (whole_numbers f.a)) v f.second in
-      let st = stands w.site.keys x (whole_numbers f.a) at.p at.place in
+      let at = read_inverted w.site s x (place_of w.site x (whole_numbers f.value)) v f.second in
+      let st = stands w.site.keys x (whole_numbers f.value) at.p at.place in
       has_kind (w.site.ring x) v (subst (λ (y : List ℕ). HasKind (kind_of w.site y) v) st.named (fit.kinds at.p v at.holds))
   value_kind w u s fit (minus a) q v h =
       let f = bound (value_of a w.site s) (λ x. lift (negation_result x)) v h in
-      kind_of_found (negation_result f.a) v _ f.second (negation_found f.a) ∙ value_kind w u s fit a q f.a f.first
+      kind_of_found (negation_result f.value) v _ f.second (negation_found f.value) ∙ value_kind w u s fit a q f.value f.first
   value_kind w u s fit (binary op a b) q v h =
       let f = bound (value_of a w.site s) (λ x. value_of b w.site s >>= (λ y. lift (binary_result op x y))) v h in
-      let g = bound (value_of b w.site s) (λ y. lift (binary_result op f.a y)) v f.second in
-      kind_of_found (binary_result op f.a g.a) v _ g.second (binary_found op f.a g.a) ∙ (ap (λ (c : Bool). c || is_ring g.a) (value_kind w u s fit a q.0 f.a f.first) ∙ ap (λ (c : Bool). is_data w.site.ring a || c) (value_kind w u s fit b q.1 g.a g.first))
+      let g = bound (value_of b w.site s) (λ y. lift (binary_result op f.value y)) v f.second in
+      kind_of_found (binary_result op f.value g.value) v _ g.second (binary_found op f.value g.value) ∙ (ap (λ (c : Bool). c || is_ring g.value) (value_kind w u s fit a q.0 f.value f.first) ∙ ap (λ (c : Bool). is_data w.site.ring a || c) (value_kind w u s fit b q.1 g.value g.first))
   value_kind w u s fit (power a n) q v h =
       let f = bound (value_of a w.site s) (λ x. lift (power_result x n)) v h in
-      kind_of_found (power_result f.a n) v _ f.second (power_found f.a n) ∙ value_kind w u s fit a q f.a f.first
+      kind_of_found (power_result f.value n) v _ f.second (power_found f.value n) ∙ value_kind w u s fit a q f.value f.first
   value_kind w u s fit (call Max es) q v h =
       let f = bound (values_of es w.site s) (λ vs. lift (call_result w.site.width Max vs)) v h in
-      kind_of_found (call_result w.site.width Max f.a) v _ f.second (call_found w.site.width Max f.a (alike_pair w u s fit es q.0 q.1 f.a f.first)) ∙ values_kind w u s fit es q.1 f.a f.first
+      kind_of_found (call_result w.site.width Max f.value) v _ f.second (call_found w.site.width Max f.value (alike_pair w u s fit es q.0 q.1 f.value f.first)) ∙ values_kind w u s fit es q.1 f.value f.first
   value_kind w u s fit (call Min es) q v h =
       let f = bound (values_of es w.site s) (λ vs. lift (call_result w.site.width Min vs)) v h in
-      kind_of_found (call_result w.site.width Min f.a) v _ f.second (call_found w.site.width Min f.a (alike_pair w u s fit es q.0 q.1 f.a f.first)) ∙ values_kind w u s fit es q.1 f.a f.first
+      kind_of_found (call_result w.site.width Min f.value) v _ f.second (call_found w.site.width Min f.value (alike_pair w u s fit es q.0 q.1 f.value f.first)) ∙ values_kind w u s fit es q.1 f.value f.first
   value_kind w u s fit (call Abs es) q v h =
       let f = bound (values_of es w.site s) (λ vs. lift (call_result w.site.width Abs vs)) v h in
-      kind_of_found (call_result w.site.width Abs f.a) v _ f.second (call_found w.site.width Abs f.a tt) ∙ values_kind w u s fit es q.1 f.a f.first
+      kind_of_found (call_result w.site.width Abs f.value) v _ f.second (call_found w.site.width Abs f.value tt) ∙ values_kind w u s fit es q.1 f.value f.first
   value_kind w u s fit (call Mod es) q v h =
       let f = bound (values_of es w.site s) (λ vs. lift (call_result w.site.width Mod vs)) v h in
-      kind_of_found (call_result w.site.width Mod f.a) v _ f.second (call_found w.site.width Mod f.a tt) ∙ values_kind w u s fit es q.1 f.a f.first
+      kind_of_found (call_result w.site.width Mod f.value) v _ f.second (call_found w.site.width Mod f.value tt) ∙ values_kind w u s fit es q.1 f.value f.first
 
   values_kind : (w : World) (u : Use) (s : Cells) → Fit w u s → (es : Expressions) → KindedAll w.site.ring es → (vs : List Value) → (values_of es w.site s).out ≡ Ok vs → any_ring vs ≡ has_data w.site.ring es
   values_kind w u s fit no_expressions q vs h = let e : [] ≡ vs = cc in subst (λ (l : List Value). any_ring l ≡ false) e refl
   values_kind w u s fit (expression e es) q vs h =
       let f = listed w.site s e es vs h in
-      ap any_ring f.whole ∙ (ap (λ (c : Bool). c || any_ring f.more) (value_kind w u s fit e q.0 f.v f.first) ∙ ap (λ (c : Bool). is_data w.site.ring e || c) (values_kind w u s fit es q.1 f.more f.second))
+      ap any_ring f.whole ∙ (ap (λ (c : Bool). c || any_ring f.more) (value_kind w u s fit e q.0 f.value f.first) ∙ ap (λ (c : Bool). is_data w.site.ring e || c) (values_kind w u s fit es q.1 f.more f.second))
 
   alike_pair : (w : World) (u : Use) (s : Cells) → Fit w u s → (es : Expressions) → PairOfOneKind w.site.ring es → KindedAll w.site.ring es → (vs : List Value) → (values_of es w.site s).out ≡ Ok vs → AlikePair vs
   alike_pair w u s fit no_expressions k q vs h = let e : [] ≡ vs = cc in subst AlikePair e tt
   alike_pair w u s fit (expression a no_expressions) k q vs h =
       let i = listed w.site s a no_expressions vs h in
       let e : [] ≡ i.more = let g = i.second in cc in
-      subst AlikePair (sym (i.whole ∙ ap (λ (l : List Value). i.v ∷ l) (sym e))) tt
+      subst AlikePair (sym (i.whole ∙ ap (λ (l : List Value). i.value ∷ l) (sym e))) tt
   alike_pair w u s fit (expression a (expression b no_expressions)) k q vs h =
       let i = listed w.site s a (expression b no_expressions) vs h in
       let j = listed w.site s b no_expressions i.more i.second in
       let e : [] ≡ j.more = let g = j.second in cc in
-      subst AlikePair (sym (i.whole ∙ ap (λ (l : List Value). i.v ∷ l) (j.whole ∙ ap (λ (l : List Value). j.v ∷ l) (sym e))))
-      (value_kind w u s fit a q.0 i.v i.first ∙ (k ∙ sym (value_kind w u s fit b q.1.0 j.v j.first)))
+      subst AlikePair (sym (i.whole ∙ ap (λ (l : List Value). i.value ∷ l) (j.whole ∙ ap (λ (l : List Value). j.value ∷ l) (sym e))))
+      (value_kind w u s fit a q.0 i.value i.first ∙ (k ∙ sym (value_kind w u s fit b q.1.0 j.value j.first)))
   alike_pair w u s fit (expression a (expression b (expression c es))) k q vs h =
       let i = listed w.site s a (expression b (expression c es)) vs h in
       let j = listed w.site s b (expression c es) i.more i.second in
       let m = listed w.site s c es j.more j.second in
-      subst AlikePair (sym (i.whole ∙ ap (λ (l : List Value). i.v ∷ l) (j.whole ∙ ap (λ (l : List Value). j.v ∷ l) m.whole))) tt
+      subst AlikePair (sym (i.whole ∙ ap (λ (l : List Value). i.value ∷ l) (j.whole ∙ ap (λ (l : List Value). j.value ∷ l) m.whole))) tt
 
 -- ---- comparisons of values of one kind
 

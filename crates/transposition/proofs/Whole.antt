@@ -14,13 +14,13 @@ use Rattle.meaning.specs.Logs.{Log, Traced, inside, at_line, condition, ◌>>=�
 use Rattle.meaning.specs.Sites.{Cells, Site, place_of}
 use Rattle.meaning.specs.Expressions.{content, holds}
 use Rattle.meaning.specs.Statements.{Run, with_log, assignment_by, turns_of, value_at, set_at, turns, loop_words, one_turn, run_turns, Heads, iterations, words_of_all, heads_of, run_parallel, choice, in_arm, run, run_all, run_inner, run_arms}
+use Rattle.meaning.proofs.Parts.{bound}
 use Rattle.transposition.specs.Worlds.{World, in_turn, in_iteration}
 use Rattle.transposition.specs.Law.{Use, Fit, Within, Undoes}
 use Rattle.transposition.specs.Sound.{scope_with, writes, writes_in, writes_in_arms, arm_count, Sound, SoundAll, SoundArms, SoundInner, SoundWithin}
 use Rattle.transposition.proofs.RoundFacts.{round_facts}
 use Rattle.transposition.proofs.Keys.{stands}
 use Rattle.transposition.proofs.Places.{content_set_same}
-use Rattle.transposition.proofs.Bounds.{bound}
 use Rattle.std.specs.Prelude.{int_div, ◌-ℤ◌}
 use Rattle.store_core.specs.Bounds.{clipped}
 use Rattle.meaning.proofs.Variables.{variables_fit}
@@ -58,13 +58,13 @@ pub record ParallelRun (w : World) (line : ℕ) (d : Head) (directive : Directiv
 parallel_parts : (w : World) (line : ℕ) (d : Head) (directive : Directive) (body : Statements) (s s2 : Cells) → (heads_of d (further_head directive body) w.site s >>= (λ heads. run_parallel line directive d.var body (run_all (iteration_body directive body)) w.site heads s)).out ≡ Ok s2 → ParallelRun w line d directive body s s2
 parallel_parts w line d directive body s s2 h =
     let b = bound (heads_of d (further_head directive body) w.site s) (λ heads. run_parallel line directive d.var body (run_all (iteration_body directive body)) w.site heads s) s2 h in
-    let c = bound (inside rounds (turns (iterations b.a) (iteration_run w directive d.var body b.a) s)) (with_log (both (single (ends line)) (words_of_all b.a))) s2 b.second in
+    let c = bound (inside rounds (turns (iterations b.value) (iteration_run w directive d.var body b.value) s)) (with_log (both (single (ends line)) (words_of_all b.value))) s2 b.second in
     record {
-      heads = b.a;
+      heads = b.value;
       counts = b.first;
-      last = c.a;
+      last = c.value;
       ran = c.first;
-      last_is = noted_out (both (single (ends line)) (words_of_all b.a)) c.a s2 c.second;
+      last_is = noted_out (both (single (ends line)) (words_of_all b.value)) c.value s2 c.second;
       log = b.log ∙ ap (λ (l : Log). both (heads_of d (further_head directive body) w.site s).log l) c.log;
     }
 
@@ -96,18 +96,18 @@ mutual
       kept_arms arms line 0 (run_all other) (λ y. writes_in y other) w u s s2 fit sound.1 (λ s s2 fit h. kept_all other w u s s2 fit sound.2 h) h
   kept (loop line number None var first last step body) w u s s2 fit sound h =
       let b = bound (at_line line (turns_of first last step w.site s)) (λ t. run_turns var (run_all body) w.site t s) s2 h in
-      let l = lined line (turns_of first last step w.site s) b.a b.first in
-      let t = turns_run w u s fit first last step sound.0.literals b.a l.out in
-      let c = bound (turns b.a.count (one_turn w.site var b.a (run_all body)) s) (with_log (loop_words b.a)) s2 b.second in
-      let e : c.a ≡ s2 = noted_out (loop_words b.a) c.a s2 c.second in
+      let l = lined line (turns_of first last step w.site s) b.value b.first in
+      let t = turns_run w u s fit first last step sound.0.literals b.value l.out in
+      let c = bound (turns b.value.count (one_turn w.site var b.value (run_all body)) s) (with_log (loop_words b.value)) s2 b.second in
+      let e : c.value ≡ s2 = noted_out (loop_words b.value) c.value s2 c.second in
       subst (λ (x : Cells). Keeps w u (λ y. bytes_eq y var || writes_in y body) s x) e
-      (turns_kept w u (λ y. bytes_eq y var || writes_in y body) b.a.count (one_turn w.site var b.a (run_all body))
+      (turns_kept w u (λ y. bytes_eq y var || writes_in y body) b.value.count (one_turn w.site var b.value (run_all body))
       (λ k i s s2 fit h.
-      let o = turn_out w u var first last step b.a (run_all body) k s sound.0 s2 h in
-      let m = variable_kept w u var first last step s (value_at b.a k) sound.0 fit (turn_index w s first last step b.a k (record { low = t.low; high = t.high; by = t.by; count = t.count }) i) in
-      let d = kept_all body (in_turn w var) (scope_with var u) (slice_set s sound.0.q (Some (Index (value_at b.a k)))) s2 (fit_turn w u var _ m.fit) sound.2 o in
-      keeps_both w u (λ y. bytes_eq y var) (λ y. writes_in y body) s (slice_set s sound.0.q (Some (Index (value_at b.a k)))) s2 m (record { fit = fit_outside w u var s2 d.fit; same = d.same }))
-      s c.a fit c.first)
+      let o = turn_out w u var first last step b.value (run_all body) k s sound.0 s2 h in
+      let m = variable_kept w u var first last step s (value_at b.value k) sound.0 fit (turn_index w s first last step b.value k (record { low = t.low; high = t.high; by = t.by; count = t.count }) i) in
+      let d = kept_all body (in_turn w var) (scope_with var u) (slice_set s sound.0.q (Some (Index (value_at b.value k)))) s2 (fit_turn w u var _ m.fit) sound.2 o in
+      keeps_both w u (λ y. bytes_eq y var) (λ y. writes_in y body) s (slice_set s sound.0.q (Some (Index (value_at b.value k)))) s2 m (record { fit = fit_outside w u var s2 d.fit; same = d.same }))
+      s c.value fit c.first)
   kept (loop line number (Some directive) var first last step body) w u s s2 fit sound h =
       let d : Head = record { line = line; var = var; first = first; last = last; step = step } in
       let p = parallel_run w line d directive body s s2 h in
@@ -125,8 +125,8 @@ mutual
   kept_all no_statements w u s s2 fit sound h = let e : s ≡ s2 = cc in subst (λ (x : Cells). Keeps w u (λ y. false) s x) e (keeps_itself w u (λ y. false) s fit)
   kept_all (statement x xs) w u s s2 fit sound h =
       let b = bound (run x w.site s) (run_all xs w.site) s2 h in
-      let one = kept x w u s b.a fit sound.0 b.first in
-      keeps_both w u (λ y. writes y x) (λ y. writes_in y xs) s b.a s2 one (kept_all xs w u b.a s2 one.fit sound.1 b.second)
+      let one = kept x w u s b.value fit sound.0 b.first in
+      keeps_both w u (λ y. writes y x) (λ y. writes_in y xs) s b.value s2 one (kept_all xs w u b.value s2 one.fit sound.1 b.second)
 
   -- the loop in a body
   pub kept_inner : (xs : Statements) (w : World) (u : Use) (s s2 : Cells) → Fit w u s → SoundInner w u xs → (run_all (inner_body xs) w.site s).out ≡ Ok s2 → Keeps w u (λ y. writes_in y (inner_body xs)) s s2
@@ -142,14 +142,14 @@ mutual
       → ((s s2 : Cells) → Fit w u s → (other w.site s).out ≡ Ok s2 → Keeps w u test s s2) → (run_arms arms line m other w.site s).out ≡ Ok s2 → Keeps w u (λ y. writes_in_arms y arms || test y) s s2
   kept_arms no_arms line m other test w u s s2 fit sound k h =
       let b = bound (other w.site s) (with_log (single (pushes (Some (Index (pos m)))))) s2 h in
-      let e : b.a ≡ s2 = noted_out (single (pushes (Some (Index (pos m))))) b.a s2 b.second in
-      subst (λ (x : Cells). Keeps w u test s x) e (k s b.a fit b.first)
+      let e : b.value ≡ s2 = noted_out (single (pushes (Some (Index (pos m))))) b.value s2 b.second in
+      subst (λ (x : Cells). Keeps w u test s x) e (k s b.value fit b.first)
   kept_arms (arm test1 body arms) line m other test w u s s2 fit sound k h =
       let b = bound (inside (condition m) (at_line line (holds test1 w.site s))) (λ p. choice p (in_arm m (run_all body w.site)) (run_arms arms line (m + 1) other w.site) s) s2 h in
-      by_test b.a b.second
+      by_test b.value b.second
       (λ g. let c = bound (run_all body w.site s) (with_log (single (pushes (Some (Index (pos m)))))) s2 g in
-      let e : c.a ≡ s2 = noted_out (single (pushes (Some (Index (pos m))))) c.a s2 c.second in
-      subst (λ (x : Cells). Keeps w u (λ y. writes_in y body) s x) e (kept_all body w u s c.a fit sound.0 c.first))
+      let e : c.value ≡ s2 = noted_out (single (pushes (Some (Index (pos m))))) c.value s2 c.second in
+      subst (λ (x : Cells). Keeps w u (λ y. writes_in y body) s x) e (kept_all body w u s c.value fit sound.0 c.first))
       (λ g. kept_arms arms line (m + 1) other test w u s s2 fit sound.1 k g)
     where
       by_test : (t : Bool) → (choice t (in_arm m (run_all body w.site)) (run_arms arms line (m + 1) other w.site) s).out ≡ Ok s2
@@ -173,10 +173,10 @@ turns_undone_from : (w : World) (u : Use) (ts : Log) (test : List ℕ → Bool) 
 turns_undone_from w u ts test zero f g s keep step s2 t fit ins h = undone_none w u ts t s s2 (let e : s ≡ s2 = cc in e)
 turns_undone_from w u ts test (suc n) f g s keep step s2 t fit ins h =
     let b = bound (turns n f s) (f n) s2 h in
-    let one = turns_kept w u test n f (λ k i. keep k (omega arith)) s b.a fit b.first in
-    let first = turns_undone_from w u ts test n f g s (λ k i. keep k (omega arith)) (λ k i. step k (omega arith)) b.a t fit (within_left w.active _ _ _ ts b.log ins) b.first in
-    let second = step n (omega arith) b.a s2 (tape_after (turns n f s).log t) b.first one.fit (within_right w.active _ _ _ ts b.log ins) b.second in
-    undone_tape w u ts (turns_back (suc n) g) t _ _ s s2 (ap (λ (l : Log). tape_after l t) (sym b.log)) (undone_both w u ts (turns_back n g) (g n) t (tape_after (turns n f s).log t) _ s b.a s2 first second)
+    let one = turns_kept w u test n f (λ k i. keep k (omega arith)) s b.value fit b.first in
+    let first = turns_undone_from w u ts test n f g s (λ k i. keep k (omega arith)) (λ k i. step k (omega arith)) b.value t fit (within_left w.active _ _ _ ts b.log ins) b.first in
+    let second = step n (omega arith) b.value s2 (tape_after (turns n f s).log t) b.first one.fit (within_right w.active _ _ _ ts b.log ins) b.second in
+    undone_tape w u ts (turns_back (suc n) g) t _ _ s s2 (ap (λ (l : Log). tape_after l t) (sym b.log)) (undone_both w u ts (turns_back n g) (g n) t (tape_after (turns n f s).log t) _ s b.value s2 first second)
 
 calm_at : (body : Statements) (w : World) (o : Option ℕ) (v : Option Value) (s : Cells) {q : ℕ} → o ≡ Some q → IsCalmAll body w (set_at o v s) → IsCalmAll body w (slice_set s q v)
 calm_at body w o v s e h = subst (λ (x : Option ℕ). IsCalmAll body w (set_at x v s)) e h
@@ -242,28 +242,28 @@ mutual
       undone_tape w u ts (back (branch line arms other) w) t (word (0 + a.k) a.body) _ s s2 (sym a.tape) (rw e a.undone)
   undone (loop line number None var first last step body) w u ts s s2 t fit sound calm ins h =
       let b = bound (at_line line (turns_of first last step w.site s)) (λ t. run_turns var (run_all body) w.site t s) s2 h in
-      let l = lined line (turns_of first last step w.site s) b.a b.first in
-      let tr = turns_run w u s fit first last step sound.0.literals b.a l.out in
-      let n = b.a.count in
-      let f = one_turn w.site var b.a (run_all body) in
-      let c = bound (turns n f s) (with_log (loop_words b.a)) s2 b.second in
-      let e : c.a ≡ s2 = noted_out (loop_words b.a) c.a s2 c.second in
+      let l = lined line (turns_of first last step w.site s) b.value b.first in
+      let tr = turns_run w u s fit first last step sound.0.literals b.value l.out in
+      let n = b.value.count in
+      let f = one_turn w.site var b.value (run_all body) in
+      let c = bound (turns n f s) (with_log (loop_words b.value)) s2 b.second in
+      let e : c.value ≡ s2 = noted_out (loop_words b.value) c.value s2 c.second in
       let in-loop = within_right w.active _ _ _ ts b.log (within_instance w.active _ ts ins) in
       let in-turns = within_left w.active _ _ _ ts c.log in-loop in
       let tape = tape_after (turns n f s).log t in
-      let turned : Undoes w u ts (turns_back n (one_turn_back w var b.a (back_all body))) t tape s c.a =
-      turns_undone_from w u ts (λ y. bytes_eq y var || writes_in y body) n f (one_turn_back w var b.a (back_all body)) s
-      (λ k i s s2 fit h. turn_kept line number var first last step body w u s s2 b.a k i fit sound tr.low tr.high tr.count h (λ s s2 fit h. kept_all body (in_turn w var) (scope_with var u) s s2 fit sound.2 h))
-      (λ k i s1 s2 t met fit ins h. turn_step line number var first last step body w u ts s1 s2 t b.a k i fit sound tr.low tr.high tr.count ins h (λ s s2 fit h. kept_all body (in_turn w var) (scope_with var u) s s2 fit sound.2 h)
-      (λ q pl ts s2 t fit ins h. undone_all body (in_turn w var) (scope_with var u) ts _ s2 t fit sound.2 (calm_at body (in_turn w var) _ _ s1 pl (calm b.a l.out k i s1 met)) ins h))
-      c.a t fit in-turns c.first in
-      let counted : Undoes w u ts (turns_back n (one_turn_back w var b.a (back_all body))) t tape s s2 =
-      subst (λ (x : Cells). Undoes w u ts (turns_back n (one_turn_back w var b.a (back_all body))) t tape s x) e turned in
-      let words : Undoes w u ts (loop_back w var (back_all body)) t (word (cast_unsigned w64 b.a.step) (word (cast_unsigned w64 b.a.last) (word (cast_unsigned w64 b.a.first) tape))) s s2 =
-      words_undone w u ts var body b.a tape t s s2 tr.low tr.high tr.by tr.count counted in
+      let turned : Undoes w u ts (turns_back n (one_turn_back w var b.value (back_all body))) t tape s c.value =
+      turns_undone_from w u ts (λ y. bytes_eq y var || writes_in y body) n f (one_turn_back w var b.value (back_all body)) s
+      (λ k i s s2 fit h. turn_kept line number var first last step body w u s s2 b.value k i fit sound tr.low tr.high tr.count h (λ s s2 fit h. kept_all body (in_turn w var) (scope_with var u) s s2 fit sound.2 h))
+      (λ k i s1 s2 t met fit ins h. turn_step line number var first last step body w u ts s1 s2 t b.value k i fit sound tr.low tr.high tr.count ins h (λ s s2 fit h. kept_all body (in_turn w var) (scope_with var u) s s2 fit sound.2 h)
+      (λ q pl ts s2 t fit ins h. undone_all body (in_turn w var) (scope_with var u) ts _ s2 t fit sound.2 (calm_at body (in_turn w var) _ _ s1 pl (calm b.value l.out k i s1 met)) ins h))
+      c.value t fit in-turns c.first in
+      let counted : Undoes w u ts (turns_back n (one_turn_back w var b.value (back_all body))) t tape s s2 =
+      subst (λ (x : Cells). Undoes w u ts (turns_back n (one_turn_back w var b.value (back_all body))) t tape s x) e turned in
+      let words : Undoes w u ts (loop_back w var (back_all body)) t (word (cast_unsigned w64 b.value.step) (word (cast_unsigned w64 b.value.last) (word (cast_unsigned w64 b.value.first) tape))) s s2 =
+      words_undone w u ts var body b.value tape t s s2 tr.low tr.high tr.by tr.count counted in
       undone_tape w u ts (back (loop line number None var first last step body) w) t _ _ s s2
       (sym (ap (λ (m : Log). tape_after m t) b.log ∙ (ap (λ (m : Log). tape_after m (tape_after (at_line line (turns_of first last step w.site s)).log t)) c.log
-      ∙ ap (λ (x : Tape). tape_after (loop_words b.a) (tape_after (turns n f s).log x)) (ap (λ (m : Log). tape_after m t) l.log ∙ turns_wordless first last step w.site s t)))) words
+      ∙ ap (λ (x : Tape). tape_after (loop_words b.value) (tape_after (turns n f s).log x)) (ap (λ (m : Log). tape_after m t) l.log ∙ turns_wordless first last step w.site s t)))) words
   undone (loop line number (Some directive) var first last step body) w u ts s s2 t fit sound calm ins h =
       let d : Head = record { line = line; var = var; first = first; last = last; step = step } in
       let v = in_iteration w number directive var body in
@@ -287,10 +287,10 @@ mutual
   undone_all no_statements w u ts s s2 t fit sound calm ins h = undone_none w u ts t s s2 (let e : s ≡ s2 = cc in e)
   undone_all (statement x xs) w u ts s s2 t fit sound calm ins h =
       let b = bound (run x w.site s) (run_all xs w.site) s2 h in
-      let one = kept x w u s b.a fit sound.0 b.first in
-      let first = undone x w u ts s b.a t fit sound.0 calm.0 (within_left w.active _ _ _ ts b.log ins) b.first in
-      let second = undone_all xs w u ts b.a s2 (tape_after (run x w.site s).log t) one.fit sound.1 (calm.1 b.a b.first) (within_right w.active _ _ _ ts b.log ins) b.second in
-      undone_tape w u ts (back_all (statement x xs) w) t _ _ s s2 (ap (λ (l : Log). tape_after l t) (sym b.log)) (undone_both w u ts (back x w) (back_all xs w) t (tape_after (run x w.site s).log t) _ s b.a s2 first second)
+      let one = kept x w u s b.value fit sound.0 b.first in
+      let first = undone x w u ts s b.value t fit sound.0 calm.0 (within_left w.active _ _ _ ts b.log ins) b.first in
+      let second = undone_all xs w u ts b.value s2 (tape_after (run x w.site s).log t) one.fit sound.1 (calm.1 b.value b.first) (within_right w.active _ _ _ ts b.log ins) b.second in
+      undone_tape w u ts (back_all (statement x xs) w) t _ _ s s2 (ap (λ (l : Log). tape_after l t) (sym b.log)) (undone_both w u ts (back x w) (back_all xs w) t (tape_after (run x w.site s).log t) _ s b.value s2 first second)
 
   -- the loop in a body
   pub undone_inner : (xs : Statements) (w : World) (u : Use) (ts : Log) (s s2 : Cells) (t : Tape) → Fit w u s → SoundInner w u xs → AreFlat xs → Within w.active (run_all (inner_body xs) w.site s).log ts → (run_all (inner_body xs) w.site s).out ≡ Ok s2
@@ -310,28 +310,28 @@ mutual
       → Within w.active (run_arms arms line m (run_all others) w.site s).log ts → (run_arms arms line m (run_all others) w.site s).out ≡ Ok s2 → ArmUndone w u ts arms (back_all others) m t (tape_after (run_arms arms line m (run_all others) w.site s).log t) s s2
   arms_undone no_arms line m others w u ts s s2 t fit few sound calm k ins h =
       let b = bound (run_all others w.site s) (with_log (single (pushes (Some (Index (pos m)))))) s2 h in
-      let e : b.a ≡ s2 = noted_out (single (pushes (Some (Index (pos m))))) b.a s2 b.second in
+      let e : b.value ≡ s2 = noted_out (single (pushes (Some (Index (pos m))))) b.value s2 b.second in
       record {
         k = 0;
         body = tape_after (run_all others w.site s).log t;
         tape = ap (λ (l : Log). tape_after l t) b.log ∙ ap (λ (i : ℕ). word i (tape_after (run_all others w.site s).log t)) (arm_word m (omega arith) ∙ omega arith);
-        undone = subst (λ (x : Cells). Undoes w u ts (back_all others w) t (tape_after (run_all others w.site s).log t) s x) e (k calm b.a t (within_left w.active _ _ _ ts b.log (within_taken w.active m _ ts ins)) b.first);
+        undone = subst (λ (x : Cells). Undoes w u ts (back_all others w) t (tape_after (run_all others w.site s).log t) s x) e (k calm b.value t (within_left w.active _ _ _ ts b.log (within_taken w.active m _ ts ins)) b.first);
       }
   arms_undone (arm test body arms) line m others w u ts s s2 t fit few sound calm k ins h =
       let b = bound (inside (condition m) (at_line line (holds test w.site s))) (λ p. choice p (in_arm m (run_all body w.site)) (run_arms arms line (m + 1) (run_all others) w.site) s) s2 h in
-      let l = lined line (holds test w.site s) b.a b.first in
+      let l = lined line (holds test w.site s) b.value b.first in
       let quiet : tape_after (within (condition m) (at_line line (holds test w.site s)).log) t ≡ t = ap (λ (x : Log). tape_after x t) l.log ∙ wordless_holds test w.site s t in
-      let tape-is : tape_after (run_arms (arm test body arms) line m (run_all others) w.site s).log t ≡ tape_after (choice b.a (in_arm m (run_all body w.site)) (run_arms arms line (m + 1) (run_all others) w.site) s).log t =
-      ap (λ (x : Log). tape_after x t) b.log ∙ ap (tape_after (choice b.a (in_arm m (run_all body w.site)) (run_arms arms line (m + 1) (run_all others) w.site) s).log) quiet in
+      let tape-is : tape_after (run_arms (arm test body arms) line m (run_all others) w.site s).log t ≡ tape_after (choice b.value (in_arm m (run_all body w.site)) (run_arms arms line (m + 1) (run_all others) w.site) s).log t =
+      ap (λ (x : Log). tape_after x t) b.log ∙ ap (tape_after (choice b.value (in_arm m (run_all body w.site)) (run_arms arms line (m + 1) (run_all others) w.site) s).log) quiet in
       arm_moved w u ts (arm test body arms) (back_all others) m t _ _ s s2 (sym tape-is)
-      (arm_chosen w u ts test body arms line m (run_all others) (back_all others) t s s2 b.a b.second (within_right w.active _ _ _ ts b.log ins)
-      (calm b.a l.out)
+      (arm_chosen w u ts test body arms line m (run_all others) (back_all others) t s s2 b.value b.second (within_right w.active _ _ _ ts b.log ins)
+      (calm b.value l.out)
       (λ q i g. let c = bound (run_all body w.site s) (with_log (single (pushes (Some (Index (pos m)))))) s2 g in
-      let e : c.a ≡ s2 = noted_out (single (pushes (Some (Index (pos m))))) c.a s2 c.second in
+      let e : c.value ≡ s2 = noted_out (single (pushes (Some (Index (pos m))))) c.value s2 c.second in
       record {
         k = 0;
         body = tape_after (run_all body w.site s).log t;
         tape = ap (λ (x : Log). tape_after x t) c.log ∙ ap (λ (i : ℕ). word i (tape_after (run_all body w.site s).log t)) (arm_word m (omega arith) ∙ omega arith);
-        undone = subst (λ (x : Cells). Undoes w u ts (back_all body w) t (tape_after (run_all body w.site s).log t) s x) e (undone_all body w u ts s c.a t fit sound.0 q (within_left w.active _ _ _ ts c.log (within_taken w.active m _ ts i)) c.first);
+        undone = subst (λ (x : Cells). Undoes w u ts (back_all body w) t (tape_after (run_all body w.site s).log t) s x) e (undone_all body w u ts s c.value t fit sound.0 q (within_left w.active _ _ _ ts c.log (within_taken w.active m _ ts i)) c.first);
       })
       (λ q i g. arms_undone arms line (m + 1) others w u ts s s2 t fit (omega arith) sound.1 q k i g))

@@ -6,7 +6,7 @@ use Rattle.fl_parser.specs.Limits.{limits_of}
 use Rattle.parsing.specs.Terminal.{is}
 use Rattle.parsing.specs.Reading.{turns}
 use Rattle.fl_parser.specs.UnitReading as spec
-use Rattle.fl_parser.proofs.Turns.{one_more}
+use Rattle.fl_expressions.proofs.Turns.{one_more}
 use Rattle.fl_parser.proofs.decl.decls.Goals as goal
 
 pub loop-turn-init : goal.loop-turn-init

@@ -5,7 +5,7 @@ use Rattle.parsing.specs.declared.fault.Cause.TheVariants.{Expected}
 use Rattle.parsing.specs.Terminal.{is}
 use Rattle.parsing.specs.Reading.{turns}
 use Rattle.fl_parser.specs.DimReading as spec
-use Rattle.fl_parser.proofs.Turns.{one_more}
+use Rattle.fl_expressions.proofs.Turns.{one_more}
 use Rattle.fl_parser.proofs.dims.more_dims.Goals as goal
 
 pub loop-turn-init : goal.loop-turn-init

@@ -6,7 +6,7 @@ use Rattle.parsing.specs.Terminal.{on, names}
 use Rattle.parsing.specs.Limit.{allows}
 use Rattle.parsing.specs.Reading.{turns}
 use Rattle.fl_parser.specs.UnitReading as spec
-use Rattle.fl_parser.proofs.Turns.{one_more}
+use Rattle.fl_expressions.proofs.Turns.{one_more}
 use Rattle.fl_parser.proofs.stmt.stmts.Goals as goal
 
 pub loop-turn-init : goal.loop-turn-init

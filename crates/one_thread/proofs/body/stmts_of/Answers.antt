@@ -1,4 +1,4 @@
-use Rattle.one_thread.proofs.Bodies.{never_unplaced, never_parallel, body_is}
+use Rattle.one_thread.proofs.Bodies.{never_unplaced, body_is}
 use Rattle.one_thread.proofs.body.stmts_of.Goals as goal
 
 pub unreachable-requires : goal.unreachable-requires
@@ -9,8 +9,3 @@ unreachable-requires c =
 pub returns-in-Ok : goal.returns-in-Ok
 returns-in-Ok c =
     body_is c.args.typed.now c.program-program.result.now c.args.table.now c.as_slice.result.now c.in-Ok.stmts c.program-program.ensures.program c.as_slice.ensures c.in-Ok.ensures.0 c.in-Ok.ensures.1
-
-pub unreachable-requires-in-Err-Parallel : goal.unreachable-requires-in-Err-Parallel
-unreachable-requires-in-Err-Parallel c =
-    never_parallel c.args.typed.now c.program-program.result.now c.as_slice.result.now c.program-program.ensures.program c.program-program.ensures.built c.as_slice.ensures
-    (rw c.in-Err-Parallel.field-0-is at c.in-Err-Parallel.ensures)

@@ -8,7 +8,6 @@ pub resolve_statements-loop-stmt-preserved : goal.resolve_statements-loop-stmt-p
 resolve_statements-loop-stmt-preserved t c = record {
   trees = grind (arith, common_steps);
   fit = rw c.in_ok-push.ensures.ok (all_pushed (is_fit c.args.table.now) _ _ c.loop-stmt.invariant.fit c.in_ok-stmt.ensures.1);
-  sequential = grind (arith, common_steps);
   placed = grind (arith, common_steps);
 }
 
@@ -16,6 +15,5 @@ pub resolve_arms-loop-arm-preserved : goal.resolve_arms-loop-arm-preserved
 resolve_arms-loop-arm-preserved t c = record {
   trees = grind (arith, common_steps);
   fit = rw c.in_ok-push.ensures.ok (all_pushed (is_arm_fit c.args.table.now) _ _ c.loop-arm.invariant.fit c.in_ok-resolved.ensures.1);
-  sequential = grind (arith, common_steps);
   placed = grind (arith, common_steps);
 }

@@ -1,0 +1,7 @@
+//! Which names are active: those whose adjoints a reverse part has to compute.
+#![tactic(auto)]
+
+mod flow;
+mod set;
+
+pub use set::{ActivityError, active};

@@ -1,0 +1,2 @@
+pub mod AdjointExprs
+pub mod Levels

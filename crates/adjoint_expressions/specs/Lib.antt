@@ -1,0 +1,4 @@
+pub mod AdjointGrammar
+pub mod AdjointReading
+pub mod NestsAdjoint
+pub mod Trees

@@ -1,0 +1,5 @@
+pub mod Small
+mod Lines
+mod Squares
+mod Loops
+mod Heads

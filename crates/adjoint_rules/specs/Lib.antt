@@ -1,0 +1,11 @@
+pub mod OwnNames
+pub mod Occurrences
+pub mod Needed
+pub mod Expressions
+pub mod Scopes
+pub mod Bounds
+pub mod Clauses
+pub mod Forward
+pub mod Reverse
+pub mod Declarations
+pub mod Adjoint

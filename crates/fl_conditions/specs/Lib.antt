@@ -1,0 +1,5 @@
+pub mod CondGrammar
+pub mod CondReading
+pub mod NestsConditions
+pub mod Terminals
+pub mod Trees

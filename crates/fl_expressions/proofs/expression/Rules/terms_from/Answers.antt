@@ -1,0 +1,19 @@
+use Rattle.std.proofs.Common.{rules, arith, nat_lt, Some}
+use Rattle.std.proofs.lemmas.Grind.{common_steps}
+use Rattle.parsing.specs.declared.fault.Cause.TheVariants.{Deep}
+use Rattle.parsing.specs.Reading.{turns, grouped}
+use Rattle.fl_expressions.specs.Terminals.{sum_op, is_sum_op}
+use Rattle.fl_expressions.specs.Trees.{binary, may_stand_left}
+use Rattle.fl_expressions.specs.ExprReading as spec
+use Rattle.fl_expressions.proofs.Turns.{one_more}
+use Rattle.fl_expressions.proofs.expression.Rules.terms_from.Goals as goal
+
+pub loop-turn-init : goal.loop-turn-init
+unfolding spec.terms_from
+loop-turn-init g c = first_of (search rules, grind (arith, common_steps))
+
+pub loop-turn-preserved : goal.loop-turn-preserved
+loop-turn-preserved g c =
+    let e = one_more (λ n. turns is_sum_op (may_stand_left (Some c.args.d)) Deep (grouped sum_op binary (spec.term (nat_lt 0 c.args.self.now.brackets) (spec.below c.args.self.now.brackets)) (Some c.args.d)) n c.loop-turn.left c.loop-turn.tokens)
+    _ c.loop-turn._turn c.loop-turn-test.true c.loop-turn.invariant.reads in
+    first_of (search rules, grind (arith, common_steps))

@@ -1,4 +1,0 @@
-use Rattle.fl_parser.proofs.expr.+expr.Given as goal
-
-abbrev pub decreases-expr : goal.decreases-expr
-decreases-expr l = l.brackets

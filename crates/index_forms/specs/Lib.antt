@@ -1,0 +1,5 @@
+pub mod Form
+pub mod Seen
+pub mod Sums
+pub mod Places
+pub mod Parts
