@@ -1,5 +1,5 @@
 -- What the lexer makes of a printed token, whatever stands behind it that doesn't join.
-use Rattle.std.proofs.Common.{◌≡◌, ℕ, ◌+◌, ◌-◌, ◌*◌, ◌/◌, ◌%◌, ◌<◌, ◌≤◌, Bool, true, false, cond, not, ◌&&◌, ◌||◌, inl, inr, List, [], ◌∷◌, ◌++◌, length, Some, None, refl, ap, sym, ◌∙◌, arith, append-nil, length-append}
+use Rattle.std.proofs.Common.{Option, ◌≡◌, ℕ, ◌+◌, ◌-◌, ◌*◌, ◌/◌, ◌%◌, ◌<◌, ◌≤◌, Bool, true, false, cond, not, ◌&&◌, ◌||◌, inl, inr, List, [], ◌∷◌, ◌++◌, length, Some, None, refl, ap, sym, ◌∙◌, arith, append-nil, length-append}
 use Rattle.std.specs.Prelude.{◌==◌, ◌^◌, if◌then◌else◌, nat_le, codes, decimal}
 use Rattle.std.specs.List.{list_all}
 use Rattle.std.proofs.lemmas.Bool.{and_parts}
@@ -298,3 +298,19 @@ class_number n k h = starts_wordy (decimal n) (suffix_text k) (numeral n (omega 
 -- an index has no suffix
 pub plain_literal : (n : ℕ) → literal_text n kind.Index ≡ decimal n
 plain_literal n = append-nil (decimal n)
+
+-- ---- kinds of words and numbers
+
+pub kind_of_name : (x : List ℕ) → is_name x ≡ true → (piece_of x).kind ≡ Lexical Word
+unfolding name_token
+kind_of_name [] h = true_false (sym h)
+kind_of_name (b ∷ bs) h = kind_is (b ∷ bs) (name_token (b ∷ bs) h)
+
+abbrev pub suffix_of_kind : Kind → Option ℕ
+suffix_of_kind kind.Index = None
+suffix_of_kind kind.Ring = Some 8
+
+pub kind_of_number : (n : ℕ) (k : Kind) → n ≤ 9223372036854775807 → (piece_of (literal_text n k)).kind ≡ Lexical (Number n (suffix_of_kind k))
+unfolding number_token
+kind_of_number n kind.Index h = kind_is (literal_text n kind.Index) (number_token n kind.Index h)
+kind_of_number n kind.Ring h = kind_is (literal_text n kind.Ring) (number_token n kind.Ring h)

@@ -21,20 +21,62 @@ fn told(alloc: Global, text: &[u8]) -> Result<String, Fail> {
 
 /// Texts, with what they are printed as. Those at the end have lines of 118 to 121 bytes and more, before they are broken.
 static TEXTS: [(&str, &str); 14] = [
-    ("subroutine poly(x, y)\n  !\n  integer(kind=8) :: x, y\n  y = x*x + 3*x\nend subroutine poly\n", "subroutine poly(x, y)\n  implicit none\n  integer(kind=8) :: x\n  integer(kind=8) :: y\n  y = (x*x)+(3*x)\nend subroutine poly\n"),
-    ("subroutine s\nend", "subroutine s()\n  implicit none\nend subroutine s\n"),
-    ("SUBROUTINE S(X)\nINTEGER(8), INTENT(INOUT) :: X(2*N-1, -3:4), N\nX(1, -N) = -X(1,2)**2 - (1_8 - MAX(N, ABS(-2))) / 7 * MOD(N, 2)\nENDSUBROUTINE", "subroutine s(x)\n  implicit none\n  integer(kind=8), intent(inout) :: x(2*n-1, -3:4)\n  integer(kind=8), intent(inout) :: n\n  x(1, -n) = (-(x(1, 2)**2))-(((1_8-max(n, abs(-2)))/7)*mod(n, 2))\nend subroutine s\n"),
-    ("subroutine s(x)\ninteger, intent(in) :: x\ninteger(kind=4), intent(out) :: y\ny = +x-((-x)+1)-1\nx = (x**2)**3\nend\n", "subroutine s(x)\n  implicit none\n  integer(kind=4), intent(in) :: x\n  integer(kind=4), intent(out) :: y\n  y = (x-((-x)+1))-1\n  x = (x**2)**3\nend subroutine s\n"),
-    ("subroutine s\ny = aaaaaaaaaaaaaaaaaaaaaaaaaaaaaaaaaaaaaaaaaaaaaaaaaaaaaaaaaaaaa+&\nbbbbbbbbbbbbbbbbbbbbbbbbbbbbbbbbbbbbbbbbbbbbbbbbbbb\nend\n", "subroutine s()\n  implicit none\n  y = aaaaaaaaaaaaaaaaaaaaaaaaaaaaaaaaaaaaaaaaaaaaaaaaaaaaaaaaaaaaa+bbbbbbbbbbbbbbbbbbbbbbbbbbbbbbbbbbbbbbbbbbbbbbbbbbb\nend subroutine s\n"),
-    ("subroutine s\ny = aaaaaaaaaaaaaaaaaaaaaaaaaaaaaaaaaaaaaaaaaaaaaaaaaaaaaaaaaaaaa+&\nbbbbbbbbbbbbbbbbbbbbbbbbbbbbbbbbbbbbbbbbbbbbbbbbbbbb\nend\n", "subroutine s()\n  implicit none\n  y = aaaaaaaaaaaaaaaaaaaaaaaaaaaaaaaaaaaaaaaaaaaaaaaaaaaaaaaaaaaaa+bbbbbbbbbbbbbbbbbbbbbbbbbbbbbbbbbbbbbbbbbbbbbbbbbbbb\nend subroutine s\n"),
-    ("subroutine s\ny = aaaaaaaaaaaaaaaaaaaaaaaaaaaaaaaaaaaaaaaaaaaaaaaaaaaaaaaaaaaaa+&\nbbbbbbbbbbbbbbbbbbbbbbbbbbbbbbbbbbbbbbbbbbbbbbbbbbbbb\nend\n", "subroutine s()\n  implicit none\n  y = aaaaaaaaaaaaaaaaaaaaaaaaaaaaaaaaaaaaaaaaaaaaaaaaaaaaaaaaaaaaa+ &\n      bbbbbbbbbbbbbbbbbbbbbbbbbbbbbbbbbbbbbbbbbbbbbbbbbbbbb\nend subroutine s\n"),
-    ("subroutine s\ny = aaaaaaaaaaaaaaaaaaaaaaaaaaaaaaaaaaaaaaaaaaaaaaaaaaaaaaaaaaaaa+&\nbbbbbbbbbbbbbbbbbbbbbbbbbbbbbbbbbbbbbbbbbbbbbbbbbbbbbb\nend\n", "subroutine s()\n  implicit none\n  y = aaaaaaaaaaaaaaaaaaaaaaaaaaaaaaaaaaaaaaaaaaaaaaaaaaaaaaaaaaaaa+ &\n      bbbbbbbbbbbbbbbbbbbbbbbbbbbbbbbbbbbbbbbbbbbbbbbbbbbbbb\nend subroutine s\n"),
-    ("subroutine s\ny = (aaaaaaaaaaaaaaaaaaaaaaaaaaaaaaaaaaaaaaaaaaaaaaaaaaaaaaaaaaaaa+&\nbbbbbbbbbbbbbbbbbbbbbbbbbbbbbbbbbbbbbbbbbbbbbb)+c\nend\n", "subroutine s()\n  implicit none\n  y = (aaaaaaaaaaaaaaaaaaaaaaaaaaaaaaaaaaaaaaaaaaaaaaaaaaaaaaaaaaaaa+bbbbbbbbbbbbbbbbbbbbbbbbbbbbbbbbbbbbbbbbbbbbbb)+c\nend subroutine s\n"),
-    ("subroutine s\ny = (aaaaaaaaaaaaaaaaaaaaaaaaaaaaaaaaaaaaaaaaaaaaaaaaaaaaaaaaaaaaa+&\nbbbbbbbbbbbbbbbbbbbbbbbbbbbbbbbbbbbbbbbbbbbbbbb)+c\nend\n", "subroutine s()\n  implicit none\n  y = (aaaaaaaaaaaaaaaaaaaaaaaaaaaaaaaaaaaaaaaaaaaaaaaaaaaaaaaaaaaaa+bbbbbbbbbbbbbbbbbbbbbbbbbbbbbbbbbbbbbbbbbbbbbbb)+c\nend subroutine s\n"),
-    ("subroutine s\ny = (aaaaaaaaaaaaaaaaaaaaaaaaaaaaaaaaaaaaaaaaaaaaaaaaaaaaaaaaaaaaa+&\nbbbbbbbbbbbbbbbbbbbbbbbbbbbbbbbbbbbbbbbbbbbbbbbb)+c\nend\n", "subroutine s()\n  implicit none\n  y = (aaaaaaaaaaaaaaaaaaaaaaaaaaaaaaaaaaaaaaaaaaaaaaaaaaaaaaaaaaaaa+bbbbbbbbbbbbbbbbbbbbbbbbbbbbbbbbbbbbbbbbbbbbbbbb)+c\nend subroutine s\n"),
-    ("subroutine s\ny = (aaaaaaaaaaaaaaaaaaaaaaaaaaaaaaaaaaaaaaaaaaaaaaaaaaaaaaaaaaaaa+&\nbbbbbbbbbbbbbbbbbbbbbbbbbbbbbbbbbbbbbbbbbbbbbbbbb)+c\nend\n", "subroutine s()\n  implicit none\n  y = (aaaaaaaaaaaaaaaaaaaaaaaaaaaaaaaaaaaaaaaaaaaaaaaaaaaaaaaaaaaaa+bbbbbbbbbbbbbbbbbbbbbbbbbbbbbbbbbbbbbbbbbbbbbbbbb &\n      )+c\nend subroutine s\n"),
-    ("subroutine s\ny = (aaaaaaaaaaaaaaaaaaaaaaaaaaaaaaaaaaaaaaaaaaaaaaaaaaaaaaaaaaaaa+&\nbbbbbbbbbbbbbbbbbbbbbbbbbbbbbbbbbbbbbbbbbbbbbbbbbb)+c\nend\n", "subroutine s()\n  implicit none\n  y = (aaaaaaaaaaaaaaaaaaaaaaaaaaaaaaaaaaaaaaaaaaaaaaaaaaaaaaaaaaaaa+ &\n      bbbbbbbbbbbbbbbbbbbbbbbbbbbbbbbbbbbbbbbbbbbbbbbbbb)+c\nend subroutine s\n"),
-    ("subroutine s\ny = (aaaaaaaaaaaaaaaaaaaaaaaaaaaaaaaaaaaaaaaaaaaaaaaaaaaaaaaaaaaaa+&\nbbbbbbbbbbbbbbbbbbbbbbbbbbbbbbbbbbbbbbbbbbbbbbbbbbb)+c\nend\n", "subroutine s()\n  implicit none\n  y = (aaaaaaaaaaaaaaaaaaaaaaaaaaaaaaaaaaaaaaaaaaaaaaaaaaaaaaaaaaaaa+ &\n      bbbbbbbbbbbbbbbbbbbbbbbbbbbbbbbbbbbbbbbbbbbbbbbbbbb)+c\nend subroutine s\n"),
+    (
+        "subroutine poly(x, y)\n  !\n  integer(kind=8) :: x, y\n  y = x*x + 3*x\nend subroutine poly\n",
+        "subroutine poly(x, y)\n  implicit none\n  integer(kind=8) :: x\n  integer(kind=8) :: y\n  y = (x*x)+(3*x)\nend subroutine poly\n",
+    ),
+    (
+        "subroutine s\nend",
+        "subroutine s()\n  implicit none\nend subroutine s\n",
+    ),
+    (
+        "SUBROUTINE S(X)\nINTEGER(8), INTENT(INOUT) :: X(2*N-1, -3:4), N\nX(1, -N) = -X(1,2)**2 - (1_8 - MAX(N, ABS(-2))) / 7 * MOD(N, 2)\nENDSUBROUTINE",
+        "subroutine s(x)\n  implicit none\n  integer(kind=8), intent(inout) :: x(2*n-1, -3:4)\n  integer(kind=8), intent(inout) :: n\n  x(1, -n) = (-(x(1, 2)**2))-(((1_8-max(n, abs(-2)))/7)*mod(n, 2))\nend subroutine s\n",
+    ),
+    (
+        "subroutine s(x)\ninteger, intent(in) :: x\ninteger(kind=4), intent(out) :: y\ny = +x-((-x)+1)-1\nx = (x**2)**3\nend\n",
+        "subroutine s(x)\n  implicit none\n  integer(kind=4), intent(in) :: x\n  integer(kind=4), intent(out) :: y\n  y = (x-((-x)+1))-1\n  x = (x**2)**3\nend subroutine s\n",
+    ),
+    (
+        "subroutine s\ny = aaaaaaaaaaaaaaaaaaaaaaaaaaaaaaaaaaaaaaaaaaaaaaaaaaaaaaaaaaaaa+&\nbbbbbbbbbbbbbbbbbbbbbbbbbbbbbbbbbbbbbbbbbbbbbbbbbbb\nend\n",
+        "subroutine s()\n  implicit none\n  y = aaaaaaaaaaaaaaaaaaaaaaaaaaaaaaaaaaaaaaaaaaaaaaaaaaaaaaaaaaaaa+bbbbbbbbbbbbbbbbbbbbbbbbbbbbbbbbbbbbbbbbbbbbbbbbbbb\nend subroutine s\n",
+    ),
+    (
+        "subroutine s\ny = aaaaaaaaaaaaaaaaaaaaaaaaaaaaaaaaaaaaaaaaaaaaaaaaaaaaaaaaaaaaa+&\nbbbbbbbbbbbbbbbbbbbbbbbbbbbbbbbbbbbbbbbbbbbbbbbbbbbb\nend\n",
+        "subroutine s()\n  implicit none\n  y = aaaaaaaaaaaaaaaaaaaaaaaaaaaaaaaaaaaaaaaaaaaaaaaaaaaaaaaaaaaaa+bbbbbbbbbbbbbbbbbbbbbbbbbbbbbbbbbbbbbbbbbbbbbbbbbbbb\nend subroutine s\n",
+    ),
+    (
+        "subroutine s\ny = aaaaaaaaaaaaaaaaaaaaaaaaaaaaaaaaaaaaaaaaaaaaaaaaaaaaaaaaaaaaa+&\nbbbbbbbbbbbbbbbbbbbbbbbbbbbbbbbbbbbbbbbbbbbbbbbbbbbbb\nend\n",
+        "subroutine s()\n  implicit none\n  y = aaaaaaaaaaaaaaaaaaaaaaaaaaaaaaaaaaaaaaaaaaaaaaaaaaaaaaaaaaaaa+ &\n      bbbbbbbbbbbbbbbbbbbbbbbbbbbbbbbbbbbbbbbbbbbbbbbbbbbbb\nend subroutine s\n",
+    ),
+    (
+        "subroutine s\ny = aaaaaaaaaaaaaaaaaaaaaaaaaaaaaaaaaaaaaaaaaaaaaaaaaaaaaaaaaaaaa+&\nbbbbbbbbbbbbbbbbbbbbbbbbbbbbbbbbbbbbbbbbbbbbbbbbbbbbbb\nend\n",
+        "subroutine s()\n  implicit none\n  y = aaaaaaaaaaaaaaaaaaaaaaaaaaaaaaaaaaaaaaaaaaaaaaaaaaaaaaaaaaaaa+ &\n      bbbbbbbbbbbbbbbbbbbbbbbbbbbbbbbbbbbbbbbbbbbbbbbbbbbbbb\nend subroutine s\n",
+    ),
+    (
+        "subroutine s\ny = (aaaaaaaaaaaaaaaaaaaaaaaaaaaaaaaaaaaaaaaaaaaaaaaaaaaaaaaaaaaaa+&\nbbbbbbbbbbbbbbbbbbbbbbbbbbbbbbbbbbbbbbbbbbbbbb)+c\nend\n",
+        "subroutine s()\n  implicit none\n  y = (aaaaaaaaaaaaaaaaaaaaaaaaaaaaaaaaaaaaaaaaaaaaaaaaaaaaaaaaaaaaa+bbbbbbbbbbbbbbbbbbbbbbbbbbbbbbbbbbbbbbbbbbbbbb)+c\nend subroutine s\n",
+    ),
+    (
+        "subroutine s\ny = (aaaaaaaaaaaaaaaaaaaaaaaaaaaaaaaaaaaaaaaaaaaaaaaaaaaaaaaaaaaaa+&\nbbbbbbbbbbbbbbbbbbbbbbbbbbbbbbbbbbbbbbbbbbbbbbb)+c\nend\n",
+        "subroutine s()\n  implicit none\n  y = (aaaaaaaaaaaaaaaaaaaaaaaaaaaaaaaaaaaaaaaaaaaaaaaaaaaaaaaaaaaaa+bbbbbbbbbbbbbbbbbbbbbbbbbbbbbbbbbbbbbbbbbbbbbbb)+c\nend subroutine s\n",
+    ),
+    (
+        "subroutine s\ny = (aaaaaaaaaaaaaaaaaaaaaaaaaaaaaaaaaaaaaaaaaaaaaaaaaaaaaaaaaaaaa+&\nbbbbbbbbbbbbbbbbbbbbbbbbbbbbbbbbbbbbbbbbbbbbbbbb)+c\nend\n",
+        "subroutine s()\n  implicit none\n  y = (aaaaaaaaaaaaaaaaaaaaaaaaaaaaaaaaaaaaaaaaaaaaaaaaaaaaaaaaaaaaa+bbbbbbbbbbbbbbbbbbbbbbbbbbbbbbbbbbbbbbbbbbbbbbbb)+c\nend subroutine s\n",
+    ),
+    (
+        "subroutine s\ny = (aaaaaaaaaaaaaaaaaaaaaaaaaaaaaaaaaaaaaaaaaaaaaaaaaaaaaaaaaaaaa+&\nbbbbbbbbbbbbbbbbbbbbbbbbbbbbbbbbbbbbbbbbbbbbbbbbb)+c\nend\n",
+        "subroutine s()\n  implicit none\n  y = (aaaaaaaaaaaaaaaaaaaaaaaaaaaaaaaaaaaaaaaaaaaaaaaaaaaaaaaaaaaaa+bbbbbbbbbbbbbbbbbbbbbbbbbbbbbbbbbbbbbbbbbbbbbbbbb &\n      )+c\nend subroutine s\n",
+    ),
+    (
+        "subroutine s\ny = (aaaaaaaaaaaaaaaaaaaaaaaaaaaaaaaaaaaaaaaaaaaaaaaaaaaaaaaaaaaaa+&\nbbbbbbbbbbbbbbbbbbbbbbbbbbbbbbbbbbbbbbbbbbbbbbbbbb)+c\nend\n",
+        "subroutine s()\n  implicit none\n  y = (aaaaaaaaaaaaaaaaaaaaaaaaaaaaaaaaaaaaaaaaaaaaaaaaaaaaaaaaaaaaa+ &\n      bbbbbbbbbbbbbbbbbbbbbbbbbbbbbbbbbbbbbbbbbbbbbbbbbb)+c\nend subroutine s\n",
+    ),
+    (
+        "subroutine s\ny = (aaaaaaaaaaaaaaaaaaaaaaaaaaaaaaaaaaaaaaaaaaaaaaaaaaaaaaaaaaaaa+&\nbbbbbbbbbbbbbbbbbbbbbbbbbbbbbbbbbbbbbbbbbbbbbbbbbbb)+c\nend\n",
+        "subroutine s()\n  implicit none\n  y = (aaaaaaaaaaaaaaaaaaaaaaaaaaaaaaaaaaaaaaaaaaaaaaaaaaaaaaaaaaaaa+ &\n      bbbbbbbbbbbbbbbbbbbbbbbbbbbbbbbbbbbbbbbbbbbbbbbbbbb)+c\nend subroutine s\n",
+    ),
 ];
 
 #[test]
