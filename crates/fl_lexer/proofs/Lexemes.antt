@@ -47,7 +47,7 @@ sentinel_lexeme line directive continued = cond directive (cond continued [] (le
 sentinel_is : (directive continued : Bool) (whole more : List ℕ) (p : LinePlace) (at : ℕ) → drop (p.start + at) whole ≡ opening directive ++ more →
     map (lexeme whole) (cond directive (cond continued [] (token p at 5 Sentinel ∷ [])) []) ≡ sentinel_lexeme p.line directive continued
 sentinel_is true true whole more p at h = refl
-sentinel_is true false whole more p at h = ap (λ x. x ∷ []) (lexeme_at whole (codes "!$omp") (32 ∷ more) p at 5 Sentinel refl h)
+sentinel_is true false whole more p at h = ap (λ x. x ∷ []) (lexeme_at whole (codes "!$omp") more p at 5 Sentinel refl h)
 sentinel_is false continued whole more p at h = refl
 
 end_is : (g : Bool) (whole more : List ℕ) (p : LinePlace) (l : Printed) → drop (p.start + length (content l)) whole ≡ 10 ∷ more →

@@ -6,15 +6,14 @@ use Rattle.std.proofs.lemmas.List.{reverse-append, length-replicate}
 use Rattle.std.proofs.Math.Seq.{take-length}
 use Rattle.std.proofs.lemmas.Bool.Decides.{nat_tests}
 use Rattle.tokens.specs.declared.TokenKind.TheVariants.{Sentinel}
-use Rattle.fl_lexer.specs.declared.piece.PieceKind.TheVariants.{Blank}
 use Rattle.fl_lexer.specs.declared.line.LinePlace.{LinePlace}
 use Rattle.fl_lexer.specs.declared.line.LineClass.{LineClass}
-use Rattle.fl_lexer.specs.declared.line.LineClass.TheVariants.{Statement, Directive}
+use Rattle.fl_lexer.specs.declared.line.LineClass.TheVariants.{Empty, Statement, Directive}
 use Rattle.fl_lexer.specs.Bytes.{is_blank, is_bang, is_line_feed, begins}
 use Rattle.fl_lexer.specs.Lines.{Line, lines, class_of, class_of_text, class_of_bang, text_from, goes_on, body_of, trimmed_len, next_class, or_else, continues}
 use Rattle.fl_lexer.specs.Reading.{Tokens, token, line_end, joint, after, first_place, leaves_open, lexed}
-use Rattle.fl_lexer.specs.Spelling.{Each, Spelt, spelt, text_of, AreLongest, tokens_of, Goes, end_of, SpellsText, SpellsClass, SpellLines, Spells}
-use Rattle.fl_lexer.specs.Printing.{Printed, opening, joint_of, content, printed, is_plain, IsPrinted, Follows, ArePrinted, line_of, sentinel_of, end_of_line, printed_tokens}
+use Rattle.fl_lexer.specs.Spelling.{Each, Spelt, text_of, AreLongest, tokens_of, Goes, end_of, SpellsText, SpellsClass, SpellLines, Spells}
+use Rattle.fl_lexer.specs.Printing.{Printed, opening, joint_of, content, printed, is_plain, is_first, IsPrinted, Follows, ArePrinted, line_of, sentinel_of, end_of_line, printed_tokens}
 use Rattle.fl_lexer.proofs.PieceSpelling.{each_len, take_front, drop_front, drop_both}
 use Rattle.fl_lexer.proofs.LineLaws.{NoFeed, lines-feed, with_feed-plain}
 use Rattle.fl_lexer.proofs.TextSpelling.{lexed_again}
@@ -70,7 +69,7 @@ unbroken_blanks (suc n) = (refl, unbroken_blanks n)
 
 unbroken_opening : (d : Bool) → Each unbroken (opening d)
 unfolding unbroken
-unbroken_opening true = (refl, (refl, (refl, (refl, (refl, (refl, tt))))))
+unbroken_opening true = (refl, (refl, (refl, (refl, (refl, tt)))))
 unbroken_opening false = tt
 
 unbroken_joint : (g : Bool) → Each unbroken (joint_of g)
@@ -123,9 +122,9 @@ first_no_blank : (bs cs : List ℕ) → begins (λ b. not (is_blank b)) bs ≡ t
 first_no_blank [] cs h = absurd (let g : false ≡ true = h in cc)
 first_no_blank (b ∷ bs) cs h = not_true (is_blank b) h
 
-opening_no_blank : (d : Bool) (bs : List ℕ) → begins is_blank bs ≡ false → begins is_blank (opening d ++ bs) ≡ false
-opening_no_blank true bs h = refl
-opening_no_blank false bs h = h
+opening_no_blank : (d : Bool) (bs cs : List ℕ) → begins (is_first d) bs ≡ true → begins is_blank (opening d ++ (bs ++ cs)) ≡ false
+opening_no_blank true bs cs h = refl
+opening_no_blank false bs cs h = first_no_blank bs cs h
 
 blank_bytes : (n : ℕ) → Each is_blank (replicate n 32)
 blank_bytes zero = tt
@@ -134,7 +133,7 @@ blank_bytes (suc n) = (refl, blank_bytes n)
 indent_is : (l : Printed) → IsPrinted l → prefix_len is_blank (content l) ≡ l.indent
 indent_is l i =
     each_len is_blank (replicate l.indent 32) (behind_blanks l) (blank_bytes l.indent)
-    (opening_no_blank l.directive (text_of l.words ++ joint_of l.goes_on) (first_no_blank (text_of l.words) (joint_of l.goes_on) i.token_first))
+    (opening_no_blank l.directive (text_of l.words) (joint_of l.goes_on) i.begun)
     ∙ length-replicate l.indent 32
 
 behind_indent : (l : Printed) → drop l.indent (content l) ≡ behind_blanks l
@@ -147,15 +146,16 @@ statement_text : (bs cs : List ℕ) → Each is_plain bs → begins (λ b. not (
 statement_text [] cs e h = absurd (let g : false ≡ true = h in cc)
 statement_text (b ∷ bs) cs e h = ap (λ t. cond t (class_of_bang (bs ++ cs)) Statement) (bang_false b e.0)
 
-kind_text : (d : Bool) (bs cs : List ℕ) → Each is_plain bs → begins (λ b. not (is_blank b)) bs ≡ true → class_of_text (opening d ++ (bs ++ cs)) ≡ kind_of d
-kind_text true bs cs e h = refl
+kind_text : (d : Bool) (bs cs : List ℕ) → Each is_plain bs → begins (is_first d) bs ≡ true → class_of_text (opening d ++ (bs ++ cs)) ≡ kind_of d
+kind_text true [] cs e h = absurd (let g : false ≡ true = h in cc)
+kind_text true (b ∷ bs) cs e h = ap (λ t. cond t Directive Empty) h
 kind_text false bs cs e h = statement_text bs cs e h
 
 class_is : (l : Printed) → IsPrinted l → class_of (content l) ≡ kind_of l.directive
 unfolding class_of
 class_is l i =
     ap (λ n. class_of_text (drop n (content l))) (indent_is l i) ∙ ap class_of_text (behind_indent l)
-    ∙ kind_text l.directive (text_of l.words) (joint_of l.goes_on) i.plain i.token_first
+    ∙ kind_text l.directive (text_of l.words) (joint_of l.goes_on) i.plain i.begun
 
 -- Its text.
 
@@ -275,14 +275,14 @@ statement_is l i d =
     text_whole (prefix_len is_blank (content l)) (content l) text cut
     (each_append no_bang (text_of l.words) (joint_of l.goes_on) (each_weaker is_plain no_bang (text_of l.words) no_bang_byte i.plain) (joint_no_bang l.goes_on))
 
-directive_is : (l : Printed) → IsPrinted l → l.directive ≡ true → text_from (prefix_len is_blank (content l) + 5) (content l) ≡ (32 ∷ text_of l.words) ++ joint_of l.goes_on
+directive_is : (l : Printed) → IsPrinted l → l.directive ≡ true → text_from (prefix_len is_blank (content l) + 5) (content l) ≡ text_of l.words ++ joint_of l.goes_on
 directive_is l i d =
     let text = text_of l.words ++ joint_of l.goes_on in
     let from = prefix_len is_blank (content l) in
-    let cut : drop (from + 5) (content l) ≡ 32 ∷ text =
+    let cut : drop (from + 5) (content l) ≡ text =
     drop_both from 5 (content l) ∙ ap (drop 5) (ap (λ n. drop n (content l)) (indent_is l i) ∙ behind_indent l ∙ ap (λ t. opening t ++ text) d) in
-    text_whole (from + 5) (content l) (32 ∷ text) cut
-    (refl, each_append no_bang (text_of l.words) (joint_of l.goes_on) (each_weaker is_plain no_bang (text_of l.words) no_bang_byte i.plain) (joint_no_bang l.goes_on))
+    text_whole (from + 5) (content l) text cut
+    (each_append no_bang (text_of l.words) (joint_of l.goes_on) (each_weaker is_plain no_bang (text_of l.words) no_bang_byte i.plain) (joint_no_bang l.goes_on))
 
 plain_amp : (l : Printed) → IsPrinted l → Each no_amp (text_of l.words)
 plain_amp l i = each_weaker is_plain no_amp (text_of l.words) no_amp_plain i.plain
@@ -297,11 +297,12 @@ and_false false = refl
 
 no_joint : (continued : Bool) (l : Printed) → IsPrinted l → l.directive ≡ false → joint continued (prefix_len is_blank (content l)) (line_of l) ≡ 0
 no_joint continued l i d =
+    let first_token : begins (λ b. not (is_blank b)) (text_of l.words) ≡ true = ap (λ t. begins (is_first t) (text_of l.words)) (sym d) ∙ i.begun in
     let text = text_of l.words ++ joint_of l.goes_on in
     let cut : drop (prefix_len is_blank (content l)) (content l) ≡ text =
     ap (λ n. drop n (content l)) (indent_is l i) ∙ behind_indent l ∙ ap (λ t. opening t ++ text) d in
     let first : begins (λ b. eqb b 38) (drop (prefix_len is_blank (content l)) (content l)) ≡ false =
-    ap (begins (λ b. eqb b 38)) cut ∙ first_no_amp (text_of l.words) (joint_of l.goes_on) (plain_amp l i) i.token_first in
+    ap (begins (λ b. eqb b 38)) cut ∙ first_no_amp (text_of l.words) (joint_of l.goes_on) (plain_amp l i) first_token in
     ap (λ t. cond (continued && t) 1 0) first ∙ ap (λ t. cond t 1 0) (and_false continued)
 
 statement_spelled : (p : LinePlace) (continued : Bool) (l : Printed) (ls : List Printed) → IsPrinted l → l.directive ≡ false → Goes l.goes_on Statement (lines_of ls) →
@@ -318,21 +319,19 @@ statement_spelled p continued l ls i d goes =
     (subst (λ (ts : Tokens). SpellsText p Statement from 0 (line_of l) (lines_of ls) ts) tokens spelled)
 
 directive_spelled : (p : LinePlace) (continued : Bool) (l : Printed) (ls : List Printed) → IsPrinted l → l.directive ≡ true → Goes l.goes_on Directive (lines_of ls) →
-    SpellsClass p continued Directive (line_of l) (lines_of ls) (cond continued [] (token p l.indent 5 Sentinel ∷ []) ++ (tokens_of p (l.indent + 6) l.words ++ end_of_line p l))
+    SpellsClass p continued Directive (line_of l) (lines_of ls) (cond continued [] (token p l.indent 5 Sentinel ∷ []) ++ (tokens_of p (l.indent + 5) l.words ++ end_of_line p l))
 directive_spelled p continued l ls i d goes =
     let from = prefix_len is_blank (content l) in
     let is = directive_is l i d in
-    let xs = spelt Blank (32 ∷ []) ∷ l.words in
-    let unbroken_words : Each no_amp (32 ∷ text_of l.words) = (refl, plain_amp l i) in
-    let g = text_goes l.goes_on (32 ∷ text_of l.words) unbroken_words in
+    let g = text_goes l.goes_on (text_of l.words) (plain_amp l i) in
     let same = indent_is l i in
-    let at : from + 5 + 0 + 1 ≡ l.indent + 6 = omega (arith, same) in
-    let spelled = spells_by p Directive (from + 5) 0 (line_of l) (lines_of ls) xs l.goes_on (ap goes_on is ∙ g.0) (ap body_of is ∙ g.1) ((32, refl, refl), i.longest) goes in
-    let tokens : tokens_of p (from + 5 + 0) xs ++ end_of l.goes_on p (line_of l) ≡ tokens_of p (l.indent + 6) l.words ++ end_of_line p l =
-    ap (λ n. tokens_of p n l.words ++ end_of l.goes_on p (line_of l)) at ∙ ap (λ e. tokens_of p (l.indent + 6) l.words ++ e) (end_same l.goes_on p (line_of l)) in (
-      tokens_of p (l.indent + 6) l.words ++ end_of_line p l,
+    let at : from + 5 + 0 ≡ l.indent + 5 = omega (arith, same) in
+    let spelled = spells_by p Directive (from + 5) 0 (line_of l) (lines_of ls) l.words l.goes_on (ap goes_on is ∙ g.0) (ap body_of is ∙ g.1) i.longest goes in
+    let tokens : tokens_of p (from + 5 + 0) l.words ++ end_of l.goes_on p (line_of l) ≡ tokens_of p (l.indent + 5) l.words ++ end_of_line p l =
+    ap (λ n. tokens_of p n l.words ++ end_of l.goes_on p (line_of l)) at ∙ ap (λ e. tokens_of p (l.indent + 5) l.words ++ e) (end_same l.goes_on p (line_of l)) in (
+      tokens_of p (l.indent + 5) l.words ++ end_of_line p l,
       subst (λ (ts : Tokens). SpellsText p Directive (from + 5) 0 (line_of l) (lines_of ls) ts) tokens spelled,
-      ap (λ n. cond continued [] (token p n 5 Sentinel ∷ []) ++ (tokens_of p (l.indent + 6) l.words ++ end_of_line p l)) (sym same),
+      ap (λ n. cond continued [] (token p n 5 Sentinel ∷ []) ++ (tokens_of p (l.indent + 5) l.words ++ end_of_line p l)) (sym same),
     )
 
 abbrev line_tokens : LinePlace → Bool → Printed → Tokens
@@ -350,7 +349,7 @@ line_spelled p continued l ls i f a =
     (line_by l.directive p continued l ls i refl (goes_is l.goes_on l.directive ls f a))
 
 open_by : (d : Bool) (continued : Bool) (l : Printed) → IsPrinted l → l.directive ≡ d → leaves_open continued (kind_of d) (content l) ≡ l.goes_on
-open_by true continued l i d = ap goes_on (directive_is l i d) ∙ (text_goes l.goes_on (32 ∷ text_of l.words) (refl, plain_amp l i)).0
+open_by true continued l i d = ap goes_on (directive_is l i d) ∙ (text_goes l.goes_on (text_of l.words) (plain_amp l i)).0
 open_by false continued l i d =
     let none : prefix_len is_blank (content l) + 0 ≡ prefix_len is_blank (content l) = omega arith in
     ap (λ n. goes_on (text_from n (content l))) none ∙ ap goes_on (statement_is l i d) ∙ (text_goes l.goes_on (text_of l.words) (plain_amp l i)).0

@@ -21,8 +21,9 @@ pub record Printed : Type 0 where
   pub words : List Spelt
   pub goes_on : Bool
 
+-- what the first text of a directive is
 abbrev pub opening : Bool → List ℕ
-opening true = codes "!$omp "
+opening true = codes "!$omp"
 opening false = []
 
 abbrev pub joint_of : Bool → List ℕ
@@ -42,11 +43,16 @@ printed (l ∷ ls) = content l ++ 10 ∷ printed ls
 abbrev pub is_plain : ℕ → Bool
 is_plain b = not ((b == 10) || (b == 13) || (b == 33) || (b == 38))
 
--- the words are tokens and blanks, each as long as can be, a token first, on a line within the limit
+-- a blank stands behind a sentinel, and a token at the beginning of a statement
+abbrev pub is_first : Bool → ℕ → Bool
+is_first true b = is_blank b
+is_first false b = not (is_blank b)
+
+-- the words are tokens and blanks, each as long as can be, and begin as they may, on a line within the limit
 pub record IsPrinted (l : Printed) : Type 0 where
   pub longest : AreLongest l.words
   pub plain : Each is_plain (text_of l.words)
-  pub token_first : begins (λ b. not (is_blank b)) (text_of l.words) ≡ true
+  pub begun : begins (is_first l.directive) (text_of l.words) ≡ true
   pub short : length (content l) ≤ 1024
 
 -- a line that goes on has one of its kind behind it

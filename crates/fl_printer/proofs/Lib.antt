@@ -1,0 +1,10 @@
+pub mod AdjointUnits
+pub mod Blocks
+pub mod Examples
+pub mod Flow
+pub mod LayoutLaws
+pub mod LexemeLaws
+pub mod Lines
+pub mod Lists
+pub mod Tokens
+pub mod Units

@@ -1,0 +1,7 @@
+pub mod Layout
+pub mod Lexemes
+pub mod ReadableAdjoint
+pub mod Rows
+pub mod Small
+pub mod Text
+pub mod Words
