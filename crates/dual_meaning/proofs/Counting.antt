@@ -17,8 +17,8 @@ use Rattle.meaning.specs.Statements.{Run, with_log, assignment_by, turns_of, val
 use Rattle.meaning.specs.Reached.{cells_with, cells_with_heads}
 use Rattle.meaning.specs.Stops.{Stop}
 use Rattle.meaning.proofs.ByKeys.{holds_agree}
-use Rattle.meaning.proofs.RunsByKeys.{Alike, turned_alike, same_place, assigned_agree, turns_of_agree}
-use Rattle.dual_meaning.specs.Counted.{Counted, going, followed, begun, seen, ended, counted, CountedRun, lined, counted_turns, counted_turn, counted_iteration, headed, turns_at, counted_heads, chosen, counted_run, counted_all, counted_inner, counted_within, counted_arms}
+use Rattle.meaning.proofs.RunsByKeys.{Alike, same_place, assigned_agree, turns_of_agree}
+use Rattle.dual_meaning.specs.Counted.{Counted, going, followed, begun, seen, ended, counted, CountedRun, lined, counted_turns, counted_turn, counted_iteration, headed, turns_at, counted_heads, chosen, counted_begun, counted_run, counted_all, counted_inner, counted_within, counted_arms}
 use Rattle.dual_meaning.proofs.Unseen.{IsUnseen, Unseen, both_unseen, holds_unseen, turns_of_unseen, assigned_unseen, set_unseen, unset_unseen, private_words_unseen, words_unseen, all_words_unseen}
 
 pub record Same (s t : Site) : Type 0 where
@@ -34,7 +34,7 @@ going_same (Err s) n f g h = refl
 pub followed_same : {A B : Type 0} (t : Counted A) (f g : A → ℕ → Counted B) → ((a : A) (m : ℕ) → f a m ≡ g a m) → followed t f ≡ followed t g
 followed_same t f g h = going_same t.0 t.1 f g h
 
-begun_same : {A : Type 0} (n : ℕ) (f g : ℕ → Counted A) → ((m : ℕ) → f m ≡ g m) → begun n f ≡ begun n g
+pub begun_same : {A : Type 0} (n : ℕ) (f g : ℕ → Counted A) → ((m : ℕ) → f m ≡ g m) → begun n f ≡ begun n g
 begun_same zero f g h = refl
 begun_same (suc n) f g h = h n
 
@@ -237,7 +237,7 @@ mutual
   pub run_all_counted : (b : Statements) (s t : Site) → Same s t → RunCounts (run_all b s) (counted_all b t)
   run_all_counted no_statements s t h c n = refl
   run_all_counted (statement b bs) s t h c n =
-      then_known (run b s c) (run_all bs s) n (counted_run b t c n) (counted_all bs t) (run_counted b s t h c n) (run_all_counted bs s t h)
+      then_known (run b s c) (run_all bs s) n (begun n (counted_begun b t c)) (counted_all bs t) (run_counted b s t h c n) (run_all_counted bs s t h)
 
   run_inner_counted : (b : Statements) (s t : Site) → Same s t → RunCounts (run_inner b s) (counted_inner b t)
   run_inner_counted no_statements s t h c n = refl

@@ -6,3 +6,7 @@ pub mod Names
 pub mod Unseen
 pub mod Counting
 pub mod Stopping
+pub mod Quotients
+pub mod Nesting
+pub mod Placed
+pub mod Ending

@@ -1,11 +1,12 @@
 -- The kinds of a table's names are those of the declarations.
-use Rattle.std.specs.Prelude.{◌≡◌, ℕ, zero, suc, Bool, true, false, ◌||◌, if◌then◌else◌, cond, bytes_eq, List, [], ◌∷◌, ◌++◌, map, Option, Some, None, slice_get, Ok, Err, refl}
+use Rattle.std.specs.Prelude.{◌≡◌, ℕ, zero, suc, Bool, true, false, ◌||◌, if◌then◌else◌, cond, bytes_eq, List, [], ◌∷◌, ◌++◌, map, Option, Some, None, slice_get, is_some, refl}
 use Rattle.std.proofs.Common.{ap, sym, ◌∙◌}
 use Rattle.std.specs.List.{list_any}
 use Rattle.std.proofs.lemmas.Slice.Eq.{bytes_eq-Decides}
 use Rattle.fl_ast.specs.declared.kind.Kind.{Kind}
 use Rattle.fl_ast.specs.declared.kind.Kind.TheVariants as kind
 use Rattle.fl_ast.specs.declared.decl.Decl.{Decl}
+use Rattle.fl_types.specs.Kinds.{has_declared_rank}
 use Rattle.fl_types.specs.Sharing.{is_ring_kind, is_ring_name}
 use Rattle.store_core.specs.declared.layout.Shape.{Shape}
 use Rattle.store_core.specs.Keys.{slot_of, scalar, with_scalars, laid, laid_all, IsApart}
@@ -64,3 +65,15 @@ ring_by_names es ds x = by_slot (slot_of (with_scalars es ds) x) refl
         ap (λ o. is_ring_kind (kind_or o)) (mapped (λ (s : Shape). named_kind ds s.name) (with_scalars es ds) i r.0 r.1)
         ∙ ring_again (is_ring_name ds r.0.name) ∙ ap (is_ring_name ds) (sym r.2)
     by_slot None e = sym (undeclared x ds (apart_all x es (map (λ (d : Decl). scalar d.name) ds) (slot_missing (with_scalars es ds) x e)).1)
+
+unranked : (x : List ℕ) (n : ℕ) (ds : List Decl) → IsApart x (map (λ (d : Decl). scalar d.name) ds) → has_declared_rank ds x n ≡ false
+unranked x n [] h = refl
+unranked x n (d ∷ ds) h = rw h.0 (unranked x n ds h.1)
+
+-- a declared name has a slot
+pub declared_slot : (es : List Shape) (ds : List Decl) (x : List ℕ) (n : ℕ) → has_declared_rank ds x n ≡ true → is_some (slot_of (with_scalars es ds) x) ≡ true
+declared_slot es ds x n h = by_slot (slot_of (with_scalars es ds) x) refl
+  where
+    by_slot : (o : Option ℕ) → slot_of (with_scalars es ds) x ≡ o → is_some o ≡ true
+    by_slot (Some i) e = refl
+    by_slot None e = let f = unranked x n ds (apart_all x es (map (λ (d : Decl). scalar d.name) ds) (slot_missing (with_scalars es ds) x e)).1 in absurd (cc)

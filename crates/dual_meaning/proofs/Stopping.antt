@@ -1,13 +1,13 @@
 -- The first stop and the ticks of a run, of which statement instances and traps alone are looked at.
-use Rattle.std.specs.Prelude.{◌≡◌, ℕ, zero, suc, ◌+◌, ◌-◌, Bool, true, false, if◌then◌else◌, nat_le, List, [], ◌∷◌, ◌++◌, Option, Some, None, Result, Ok, Err, refl}
+use Rattle.std.specs.Prelude.{◌≡◌, ℕ, zero, suc, ◌+◌, ◌-◌, ◌≤◌, Bool, true, false, if◌then◌else◌, nat_le, List, [], ◌∷◌, ◌++◌, Some, None, Result, Ok, Err, refl}
 use Rattle.std.proofs.Common.{ap, sym, ◌∙◌, arith, append_assoc}
 use Rattle.std.proofs.Math.Nat.{add-sub_cancel}
 use Rattle.std.proofs.lemmas.Bool.Decides.{nat_tests}
 use Rattle.meaning.specs.declared.value.TrapAt.{TrapAt}
-use Rattle.meaning.specs.Logs.{Event, begins, touches, pushes, ends, traps, Passage, instance, right_side, rounds, turn, iteration, condition, taken, Log, silence, single, touched, sets, both, within, Traced, events_in, events, opening_events, iteration_in}
+use Rattle.meaning.specs.Logs.{Event, begins, touches, pushes, ends, traps, instance, right_side, rounds, turn, iteration, condition, taken, Log, silence, single, touched, sets, both, within, Traced, events_in, events}
 use Rattle.meaning.specs.Sites.{Cells}
 use Rattle.meaning.specs.Laws.{trap_in, trap_of}
-use Rattle.meaning.specs.Stops.{Seen, Stop, at_end, trapped, over_statements, Judge, by_conflict, the_limits, stop_or, stop_after, first_stop, ticks_or, ticks_after, ticks, nothing_seen, statements_and_traps}
+use Rattle.meaning.specs.Stops.{Seen, Stop, at_end, over_statements, by_conflict, the_limits, stop_or, stop_after, first_stop, ticks_after, ticks, nothing_seen, statements_and_traps}
 use Rattle.dual_meaning.specs.Counted.{Counted, going, begun, seen, ended, counted, overs, EndsAs}
 
 -- so many statement instances, and nothing else, were seen
@@ -144,8 +144,10 @@ the_stop l = ap (stop_from 0) (sym (no_more (statements_and_traps (events l)))) 
 
 the_ticks : (l : Log) → ticks by_conflict the_limits (statements_and_traps (events l)) ≡ ticks_in (seen l 16777216).0 (seen l 16777216).1 (λ m. 16777216 - m)
 the_ticks l =
-    ap (ticks_from 0) (sym (no_more (statements_and_traps (events l))))
-    ∙ ticks_as l 0 0 16777216 [] (λ m. 16777216 - m) refl (λ i m e. let z = spent i m e in omega arith)
+    let e : 0 + ticks_from 0 (statements_and_traps (events l) ++ []) ≡ ticks_in (seen l 16777216).0 (seen l 16777216).1 (λ m. 16777216 - m)
+    = ticks_as l 0 0 16777216 [] (λ m. 16777216 - m) refl (λ i m e. let z = spent i m e in omega arith) in
+    let z : ticks_from 0 (statements_and_traps (events l) ++ []) ≡ 0 + ticks_from 0 (statements_and_traps (events l) ++ []) = omega arith in
+    ap (ticks_from 0) (sym (no_more (statements_and_traps (events l)))) ∙ (z ∙ e)
 
 untrapped_by : (s : Seen) (es : List Event) (b : Bool) → ((q : Seen) → stop_after by_conflict the_limits q (statements_and_traps es) ≡ at_end → trap_in es ≡ None)
     → stop_or (if b then Ok (record s { statements = s.statements + 1 }) else Err over_statements) (λ q. stop_after by_conflict the_limits q (statements_and_traps es)) ≡ at_end → trap_in es ≡ None
@@ -172,3 +174,39 @@ by_seen t out (Err x) m o h s k = (s, k)
 -- what is counted of a run that has its trap in its log is its first stop, with its ticks
 pub ends_as : (t : Traced TrapAt Cells) → trap_in (events t.log) ≡ trap_of t.out → EndsAs t (counted t 16777216)
 ends_as t h = by_seen t t.out (seen t.log 16777216).0 (seen t.log 16777216).1 refl h (the_stop t.log) (the_ticks t.log)
+
+-- ---- instances are only taken
+
+going_le : (r : Result (Unit {0}) Stop) (m : ℕ) (b : Log) (n : ℕ) → m ≤ n → ((j : ℕ) → (seen b j).1 ≤ j) → (going r m (λ u j. seen b j)).1 ≤ n
+going_le (Ok u) m b n h f = let g = f m in omega arith
+going_le (Err s) m b n h f = h
+
+begun_le : (n : ℕ) (g : ℕ → Counted (Unit {0})) → ((m : ℕ) → (g m).1 ≤ m) → (begun n g).1 ≤ n
+begun_le zero g f = omega arith
+begun_le (suc n) g f = let h = f n in omega arith
+
+seen_le : (l : Log) (n : ℕ) → (seen l n).1 ≤ n
+seen_le silence n = omega arith
+seen_le (single begins) n = begun_le n (λ m. (Ok tt, m)) (λ m. omega arith)
+seen_le (single (touches t)) n = omega arith
+seen_le (single (pushes v)) n = omega arith
+seen_le (single (ends line)) n = omega arith
+seen_le (single (traps t)) n = omega arith
+seen_le (touched p kind) n = omega arith
+seen_le (sets p v) n = omega arith
+seen_le (both a b) n = going_le (seen a n).0 (seen a n).1 b n (seen_le a n) (seen_le b)
+seen_le (within instance a) n = begun_le n (seen a) (seen_le a)
+seen_le (within (right_side x) a) n = seen_le a n
+seen_le (within rounds a) n = seen_le a n
+seen_le (within (turn j) a) n = begun_le n (seen a) (seen_le a)
+seen_le (within (iteration j) a) n = begun_le n (seen a) (seen_le a)
+seen_le (within (condition m) a) n = seen_le a n
+seen_le (within (taken m) a) n = seen_le a n
+
+ended_le : (r : Result (Unit {0}) Stop) (m n : ℕ) (out : Result Cells TrapAt) → m ≤ n → (going r m (λ u j. ended out j)).1 ≤ n
+ended_le (Ok u) m n (Ok cells) h = h
+ended_le (Ok u) m n (Err x) h = h
+ended_le (Err s) m n out h = h
+
+pub counted_le : (t : Traced TrapAt Cells) (n : ℕ) → (counted t n).1 ≤ n
+counted_le t n = ended_le (seen t.log n).0 (seen t.log n).1 n t.out (seen_le t.log n)

@@ -16,11 +16,11 @@ use Rattle.meaning.specs.declared.value.Cause.{Cause}
 use Rattle.meaning.specs.declared.value.Cause.TheVariants.{ZeroDivisor}
 use Rattle.meaning.specs.declared.value.IterationCount.{IterationCount}
 use Rattle.meaning.specs.Values.{whole_number, whole_numbers, as_dual, as_kind}
-use Rattle.meaning.specs.Logs.{Log, silence, single, touched, sets, both, within, pushes, right_side, Traced, pure, lift, after, continuation, ◌>>=◌, inside}
+use Rattle.meaning.specs.Logs.{Log, silence, single, touched, both, pushes, right_side, Traced, pure, lift, after, continuation, ◌>>=◌, inside}
 use Rattle.meaning.specs.Sites.{Cells, with_tangent, Site, place_of, kind_of}
 use Rattle.meaning.specs.Expressions.{after_touch, content, read_cell, read_place, read, value_of, values_of, holds}
 use Rattle.meaning.specs.Statements.{store_at, after_push, put, plain_assignment, terms_of, incremented_dual, increment_cell, increment_place, increment, assignment_by, turns_by, step_value, turns_of, content_at, set_log_at, unset_log, private_words, Heads, loop_words, words_of_all}
-use Rattle.dual_meaning.specs.Counted.{Counted, going, followed, seen}
+use Rattle.dual_meaning.specs.Counted.{Counted, followed, seen}
 
 -- nothing is seen of the log
 abbrev pub IsUnseen : Log → Type 0

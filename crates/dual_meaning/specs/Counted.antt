@@ -3,11 +3,10 @@ use Rattle.std.specs.Prelude.{ℕ, ◌≡◌, zero, suc, ◌+◌, ◌-◌, Bool,
 use Rattle.fl_ast.specs.Tree.{Statement, assignment, branch, loop, Statements, no_statements, statement, Arms, no_arms, arm}
 use Rattle.fl_types.specs.Increment.{increment_terms}
 use Rattle.fl_types.specs.Nests.{Head, is_nest, further_head}
-use Rattle.meaning.specs.declared.value.Value.{Value}
 use Rattle.meaning.specs.declared.value.Cause.{Cause}
 use Rattle.meaning.specs.declared.value.TrapAt.{TrapAt}
 use Rattle.meaning.specs.declared.value.IterationCount.{IterationCount}
-use Rattle.meaning.specs.Logs.{Event, begins, touches, pushes, ends, traps, Passage, instance, right_side, rounds, turn, iteration, condition, taken, Log, silence, single, touched, sets, both, within, events, Traced}
+use Rattle.meaning.specs.Logs.{begins, touches, pushes, ends, traps, Passage, instance, right_side, rounds, turn, iteration, condition, taken, Log, silence, single, touched, sets, both, within, events, Traced}
 use Rattle.meaning.specs.Sites.{Cells, Site}
 use Rattle.meaning.specs.Expressions.{holds}
 use Rattle.meaning.specs.Statements.{assignment_by, turns_of, value_at, private_names, with_all_unset, Heads, iterations}
@@ -101,22 +100,22 @@ abbrev pub chosen : Bool → CountedRun → CountedRun → CountedRun
 chosen true f g = f
 chosen false f g = g
 
+-- a statement whose instance has begun
 abbrev mutual
-  pub counted_run : Statement → Site → CountedRun
-  counted_run (assignment line atomic p e) site cells left =
-      begun left (ended (lined line (assignment_by site cells atomic p e (increment_terms site.ring p e)).out))
-  counted_run (branch line arms other) site cells left = begun left (counted_arms arms line (counted_all other site) site cells)
-  counted_run (loop line number None var first last step body) site cells left =
-      begun left (λ m. followed (ended (turns_at (record { line = line; var = var; first = first; last = last; step = step }) site cells) m)
-      (λ t. counted_turns t.count (counted_turn site var t (counted_all body site)) cells))
-  counted_run (loop line number (Some directive) var first last step body) site cells left =
-      begun left (λ m. followed (ended (counted_heads (record { line = line; var = var; first = first; last = last; step = step }) (further_head directive body) site cells) m)
+  pub counted_begun : Statement → Site → CountedRun
+  counted_begun (assignment line atomic p e) site cells left = ended (lined line (assignment_by site cells atomic p e (increment_terms site.ring p e)).out) left
+  counted_begun (branch line arms other) site cells left = counted_arms arms line (counted_all other site) site cells left
+  counted_begun (loop line number None var first last step body) site cells left =
+      followed (ended (turns_at (record { line = line; var = var; first = first; last = last; step = step }) site cells) left)
+      (λ t. counted_turns t.count (counted_turn site var t (counted_all body site)) cells)
+  counted_begun (loop line number (Some directive) var first last step body) site cells left =
+      followed (ended (counted_heads (record { line = line; var = var; first = first; last = last; step = step }) (further_head directive body) site cells) left)
       (λ heads. counted_turns (iterations heads)
-      (counted_iteration site (private_names site directive var body) heads (chosen (is_nest directive body) (counted_inner body site) (counted_all body site))) cells))
+      (counted_iteration site (private_names site directive var body) heads (chosen (is_nest directive body) (counted_inner body site) (counted_all body site))) cells)
 
   pub counted_all : Statements → Site → CountedRun
   counted_all no_statements site cells left = (Ok cells, left)
-  counted_all (statement s ss) site cells left = followed (counted_run s site cells left) (counted_all ss site)
+  counted_all (statement s ss) site cells left = followed (begun left (counted_begun s site cells)) (counted_all ss site)
 
   -- the statements of the loop in a body
   pub counted_inner : Statements → Site → CountedRun
@@ -133,6 +132,9 @@ abbrev mutual
   counted_arms no_arms line other site cells left = other cells left
   counted_arms (arm test body arms) line other site cells left =
       followed (ended (lined line (holds test site cells).out) left) (λ p. chosen p (counted_all body site) (counted_arms arms line other site) cells)
+
+abbrev pub counted_run : Statement → Site → CountedRun
+counted_run s site cells left = begun left (counted_begun s site cells)
 
 -- ---- what a count says of the first stop and the ticks
 

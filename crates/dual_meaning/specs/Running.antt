@@ -1,10 +1,12 @@
 -- How assignments are run: an increment's terms are summed first, and the sum is added to the target.
-use Rattle.std.specs.Prelude.{◌≡◌, ℕ, suc, ◌*◌, ◌/◌, ◌%◌, List, [], ◌∷◌, Option, Some, None, Result, Ok, Err, slice_set, ◌+ℤ◌, ◌-ℤ◌, int_div}
+use Rattle.std.specs.Prelude.{◌≡◌, ℕ, suc, ◌*◌, ◌/◌, ◌%◌, cond, List, [], ◌∷◌, ◌++◌, Option, Some, None, Result, Ok, Err, slice_set, ◌+ℤ◌, ◌-ℤ◌, int_div}
 use Rattle.ring_core.specs.Index.{IsIndex}
 use Rattle.store_core.specs.Bounds.{clipped}
 use Rattle.fl_ast.specs.declared.kind.BinOp.{BinOp}
 use Rattle.fl_ast.specs.declared.kind.BinOp.TheVariants.{Add, Sub, Mul, Div}
-use Rattle.fl_ast.specs.Tree.{Expression, literal, get, minus, binary, power, call, Designator}
+use Rattle.fl_ast.specs.declared.directive.Directive.{Directive}
+use Rattle.fl_types.specs.Sharing.{sharing_in, is_private}
+use Rattle.fl_ast.specs.Tree.{Statements, Expression, literal, get, minus, binary, power, call, Designator}
 use Rattle.fl_types.specs.declared.increment.IncrementForm.{IncrementForm}
 use Rattle.fl_types.specs.declared.increment.IncrementForm.TheVariants.{Chain, Sum}
 use Rattle.meaning.specs.declared.value.Dual.{Dual}
@@ -26,7 +28,7 @@ use Rattle.resolved.specs.ResolvedExprs.{slot_name, expression_back}
 use Rattle.resolved.specs.ResolvedStmts.{option_back}
 use Rattle.meaning.specs.Values.{dual_add, dual_sub, as_dual}
 use Rattle.meaning.specs.Logs.{Traced, pure, lift, ◌>>=◌}
-use Rattle.meaning.specs.Sites.{Cells, Site}
+use Rattle.meaning.specs.Sites.{Cells, Site, place_of}
 use Rattle.meaning.specs.Expressions.{content, value_of}
 use Rattle.meaning.specs.Statements.{put, value_at, set_at}
 use Rattle.meaning.specs.Stops.{trapped, over_statements}
@@ -162,6 +164,19 @@ AnswersRound (Err run.Memory) place r = Unit {0}
 abbrev pub unset_places : List ℕ → Cells → Cells
 unset_places [] cells = cells
 unset_places (p ∷ ps) cells = unset_places ps (slice_set cells p None)
+
+-- with the place, where there is one
+abbrev pub added : Option ℕ → List ℕ → List ℕ
+added None ps = ps
+added (Some p) ps = ps ++ p ∷ []
+
+-- where a name is to be unset, if it is a private scalar
+abbrev pub private_place : Site → Directive → List ℕ → Statements → List ℕ → Option ℕ
+private_place site directive var body x = cond (is_private (sharing_in var directive body x)) (place_of site x []) None
+
+abbrev pub unset_privates : Site → Directive → List ℕ → Statements → List (List ℕ) → Cells → Cells
+unset_privates site directive var body [] cells = cells
+unset_privates site directive var body (x ∷ xs) cells = unset_privates site directive var body xs (set_at (private_place site directive var body x) None cells)
 
 abbrev pub with_round : Round → ℕ → Cells → Cells
 with_round round k cells = set_at round.place (Some (Index (value_at round.turns k))) cells

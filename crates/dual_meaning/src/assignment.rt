@@ -140,4 +140,3 @@ pub(crate) fn assign(
         }
     }
 }
-

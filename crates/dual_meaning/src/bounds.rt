@@ -122,7 +122,13 @@ fn value_in(first: i32, step: i32, turn: u64) -> i32
 }
 
 /// Sets a loop's variable for a turn, where it has a place.
-pub(crate) fn begin_turn(cells: &mut Vec<Option<Value>>, place: Option<u32>, first: i32, step: i32, turn: u64)
+pub(crate) fn begin_turn(
+    cells: &mut Vec<Option<Value>>,
+    place: Option<u32>,
+    first: i32,
+    step: i32,
+    turn: u64,
+)
     requires { IsIndex (first +ℤ (pos turn *ℤ step)) }
     ensures { cells.new.items ≡ set_at place (Some (index_value (first +ℤ (pos turn *ℤ step)))) cells.old.items }
 {
@@ -134,4 +140,3 @@ pub(crate) fn begin_turn(cells: &mut Vec<Option<Value>>, place: Option<u32>, fir
         );
     }
 }
-

@@ -5,9 +5,11 @@ mod assignment;
 mod bounds;
 mod evaluator;
 mod privates;
+mod program;
 mod rounds;
 mod statements;
 
 pub use evaluator::{EvalStop, evaluate, holds};
+pub use program::run_program;
 pub use rounds::Round;
 pub use statements::{Progress, RunStop, run_statements};

@@ -1,13 +1,12 @@
-ghost use Rattle.std.specs.Prelude.{◌≡◌, ◌<◌, true, bytes_eq, List, length, IfOk};
+ghost use Rattle.std.specs.Prelude.{◌≡◌, ◌<◌, true, bytes_eq, List, length, IfOk, OnOk};
 ghost use Rattle.fl_types.specs.Sharing.{has_name as has_name_lem, varies as varies_lem, varies_in as varies_in_lem, varies_in_arms as varies_in_arms_lem, is_private as is_private_lem, sharing_in};
 ghost use Rattle.fl_types.specs.Nests.{is_plain_loop as is_plain_loop_lem, is_nest as is_nest_lem};
 ghost use Rattle.store_core.specs.declared.layout.Shape.{Shape as LaidShape};
 ghost use Rattle.meaning.specs.Sites.{Cells};
-ghost use Rattle.meaning.specs.Statements.{private_names, with_all_unset};
 ghost use Rattle.resolved.specs.SlotTables.{table_site};
 ghost use Rattle.resolved.specs.ResolvedExprs.{slot_name};
 ghost use Rattle.resolved.specs.ResolvedStmts.{statement_back, statements_back, arms_back, is_fit, are_fit, are_arms_fit};
-ghost use Rattle.dual_meaning.specs.Running.{unset_places};
+ghost use Rattle.dual_meaning.specs.Running.{unset_places, unset_privates, added, private_place as private_place_lem};
 
 use fl_ast::{Directive, Memory, Name};
 use resolved::{ResolvedArm, ResolvedStmt, SlotTable};
@@ -102,6 +101,34 @@ fn is_private(
     has_name(directive.privates.as_slice(), name)
 }
 
+/// Where a name is to be unset at the start of an iteration, if it is private there.
+fn private_place(
+    table: &SlotTable,
+    directive: &Directive,
+    variable: usize,
+    body: &[ResolvedStmt],
+    name: &Name,
+) -> Option<u32>
+    requires variable { variable < length table.now.0 }
+    requires fit { are_fit table.now body.now ≡ true }
+    ensures { result ≡ private_place_lem (table_site table.now) directive.now (slot_name table.now.0 variable) (statements_back table.now.0 body.now) name.now }
+{
+    if is_private(table, directive, variable, body, name) {
+        table.layout().place(name, &[])
+    } else {
+        None
+    }
+}
+
+fn add(places: &mut Vec<u32>, place: Option<u32>) -> Result<(), Memory>
+    ensures { OnOk result (places.new.items ≡ added place places.old.items) }
+{
+    if let Some(place) = place {
+        places.push(place)?;
+    }
+    Ok(())
+}
+
 /// The places of a parallel loop's private scalars, in the order of their declarations.
 pub(crate) fn private_places(
     alloc: Global,
@@ -113,16 +140,12 @@ pub(crate) fn private_places(
     requires variable { variable < length table.now.0 }
     requires fit { are_fit table.now body.now ≡ true }
     ensures { IfOk result (λ places. (cells : Cells) → unset_places places.items cells
-        ≡ with_all_unset (table_site table.now) (private_names (table_site table.now) directive.now (slot_name table.now.0 variable)
-        (statements_back table.now.0 body.now)) cells) }
+        ≡ unset_privates (table_site table.now) directive.now (slot_name table.now.0 variable) (statements_back table.now.0 body.now) table.now.3 cells) }
 {
     let mut places = Vec::new(alloc);
     for name in table.declared() {
-        if is_private(table, directive, variable, body, name) {
-            if let Some(place) = table.layout().place(name, &[]) {
-                places.push(place)?;
-            }
-        }
+        let place = private_place(table, directive, variable, body, name);
+        add(&mut places, place)?;
     }
     Ok(places)
 }
@@ -139,13 +162,14 @@ fn is_plain_loop(stmt: &ResolvedStmt) -> bool
 
 /// Whether a parallel loop with this body is collapsed with the loop in it (OpenMP 5.2, 4.4.3).
 pub(crate) fn is_nest(directive: &Directive, body: &[ResolvedStmt]) -> bool
-    ensures { (shapes : List LaidShape) → result ≡ is_nest_lem directive.now (statements_back shapes body.now) }
+    ensures value { (shapes : List LaidShape) → result ≡ is_nest_lem directive.now (statements_back shapes body.now) }
+    ensures one { result ≡ true → length body.now ≡ 1 }
 {
     if directive.collapse != 2 {
         return false;
     }
-    match body {
-        [only] => is_plain_loop(only),
-        _ => false,
+    if body.len() != 1 {
+        return false;
     }
+    is_plain_loop(&body[0])
 }

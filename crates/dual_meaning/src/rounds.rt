@@ -1,11 +1,11 @@
-ghost use Rattle.std.specs.Prelude.{◌≡◌, ◌<◌, ◌*◌, ◌^◌, ◌≤◌, None, slice_set};
+ghost use Rattle.std.specs.Prelude.{◌≡◌, ◌<◌, ◌*◌, ◌/◌, ◌%◌, None, slice_set};
 ghost use Rattle.dual_meaning.specs.Running.{IsCounted, unset_places, with_round as with_round_lem, round_count as round_count_lem, with_rounds, is_counted_option};
 
 use crate::bounds::begin_turn;
 use meaning::{IterationCount, Value};
 
 /// A loop over iterations: where its variable lives, and its turns.
-#[derive(Clone, Copy)]
+#[derive(Clone, Copy, Debug)]
 pub struct Round {
     pub place: Option<u32>,
     pub turns: IterationCount,
@@ -49,6 +49,25 @@ pub(crate) fn round_count(outer: &Round, inner: &Option<Round>) -> u128
     }
 }
 
+/// The turn of the outer loop in iteration k, where the inner one has `count` turns.
+#[tactic(auto, using(crate::proofs::Quotients::quotients))]
+fn row(k: u128, rows: u64, count: u64) -> u64
+    requires { k < rows * count }
+    ensures value { result ≡ k / count }
+    ensures below { result < rows }
+{
+    (k / u128::from(count)) as u64
+}
+
+/// And that of the inner loop.
+fn column(k: u128, count: u64) -> u64
+    requires { 0 < count }
+    ensures value { result ≡ k % count }
+    ensures below { result < count }
+{
+    (k % u128::from(count)) as u64
+}
+
 /// Sets the variables for iteration k. The inner of two loops runs faster.
 pub(crate) fn set_rounds(
     cells: &mut Vec<Option<Value>>,
@@ -64,9 +83,9 @@ pub(crate) fn set_rounds(
     match inner {
         None => set_round(cells, outer, k as u64),
         Some(inner) => {
-            let count = u128::from(inner.turns.count);
-            set_round(cells, outer, (k / count) as u64);
-            set_round(cells, inner, (k % count) as u64);
+            let count = inner.turns.count;
+            set_round(cells, outer, row(k, outer.turns.count, count));
+            set_round(cells, inner, column(k, count));
         }
     }
 }

@@ -7,7 +7,7 @@ ghost use Rattle.meaning.specs.Statements.{private_names, iterations};
 ghost use Rattle.resolved.specs.SlotTables.{table_site};
 ghost use Rattle.resolved.specs.ResolvedExprs.{expression_back, place_back, condition_back, slot_name, is_within, is_place_within, is_condition_within};
 ghost use Rattle.resolved.specs.ResolvedStmts.{statement_back, statements_back, is_option_within, is_fit, are_fit};
-ghost use Rattle.dual_meaning.specs.Counted.{followed, ended, lined, turns_at as turns_at_lem, counted_heads, counted_turn, counted_turns, counted_iteration, counted_run, counted_all};
+ghost use Rattle.dual_meaning.specs.Counted.{followed, ended, lined, turns_at as turns_at_lem, counted_heads, counted_turn, counted_turns, counted_iteration, counted_run, counted_begun, counted_all};
 ghost use Rattle.dual_meaning.specs.Running.{by_form, IsCounted, stop_at as stop_at_lem, AnswersAt, AnswersRound, SetsAt, Begins, Ran, over_by, head_back, round_of, round_count as round_count_lem, counted_round, is_counted_option};
 ghost use Rattle.dual_meaning.specs.declared.statements.RunStop.TheVariants.{Memory as memory};
 
@@ -168,6 +168,23 @@ fn run_statement<L: Ledger>(
     ensures ticks { steps.new + progress.new.left ≡ (steps.old + progress.old.left) + over_by result }
 {
     begin(&mut progress.left, steps)?;
+    run_begun(alloc, table, progress, steps, stmt)
+}
+
+/// Runs a statement whose instance has begun.
+#[cycle(run)]
+fn run_begun<L: Ledger>(
+    alloc: Global,
+    table: &SlotTable,
+    progress: &mut Progress,
+    steps: &mut Steps<L>,
+    stmt: &ResolvedStmt,
+) -> Result<(), RunStop>
+    requires fit { is_fit table.now stmt.now ≡ true }
+    ensures ran { Ran result progress.new.cells.items progress.new.left
+        (counted_begun (statement_back table.now.0 stmt.now) (table_site table.now) progress.old.cells.items progress.old.left) }
+    ensures ticks { steps.new + progress.new.left ≡ (steps.old + progress.old.left) + over_by result }
+{
     match stmt {
         ResolvedStmt::Assign {
             line,
@@ -202,7 +219,15 @@ fn run_statement<L: Ledger>(
             None => {
                 let turns = turns_at(alloc, table, &progress.cells, *line, head)?;
                 let variable = head.variable;
-                run_turns(alloc, table, progress, steps, variable, turns, body.as_slice())
+                run_turns(
+                    alloc,
+                    table,
+                    progress,
+                    steps,
+                    variable,
+                    turns,
+                    body.as_slice(),
+                )
             }
             Some(directive) => run_parallel(
                 alloc,
@@ -274,12 +299,11 @@ fn run_parallel<L: Ledger>(
     let privates = private_places(alloc, table, directive, head.variable, body)?;
     let outer = round_at(alloc, table, &progress.cells, line, head)?;
     if !is_nest(directive, body) {
-        return run_rounds(alloc, table, progress, steps, &privates, &outer, &None, body);
+        return run_rounds(
+            alloc, table, progress, steps, &privates, &outer, &None, body,
+        );
     }
-    match body {
-        [only] => run_nest(alloc, table, progress, steps, &privates, &outer, only),
-        _ => unreachable!(),
-    }
+    run_nest(alloc, table, progress, steps, &privates, &outer, &body[0])
 }
 
 /// Runs the iterations of two loops that are collapsed. The bounds of the inner one are evaluated once.
@@ -304,7 +328,10 @@ fn run_nest<L: Ledger>(
 {
     match inner {
         ResolvedStmt::Do {
-            line, head, body, ..
+            line,
+            head,
+            body,
+            ..
         } => {
             let inner = round_at(alloc, table, &progress.cells, *line, head)?;
             run_rounds(
@@ -361,7 +388,7 @@ pub fn run_statements<L: Ledger>(
     steps: &mut Steps<L>,
     stmts: &[ResolvedStmt],
 ) -> Result<(), RunStop>
-    requires { are_fit table.now stmts.now ≡ true }
+    requires fit { are_fit table.now stmts.now ≡ true }
     ensures ran { Ran result progress.new.cells.items progress.new.left
         (counted_all (statements_back table.now.0 stmts.now) (table_site table.now) progress.old.cells.items progress.old.left) }
     ensures ticks { steps.new + progress.new.left ≡ (steps.old + progress.old.left) + over_by result }

@@ -12,12 +12,12 @@ use Rattle.resolved.specs.declared.resolved.ResolvedStmt.{ResolvedStmt, the_lemm
 use Rattle.resolved.specs.declared.resolved.ResolvedStmt.TheVariants as stmts
 use Rattle.resolved.specs.declared.resolved.ResolvedArm.{ResolvedArm}
 use Rattle.resolved.specs.SlotTables.{Names}
-use Rattle.resolved.specs.ResolvedStmts.{option_back, statement_back, statements_back, arms_back, is_option_within, is_fit, are_fit, are_arms_fit}
+use Rattle.resolved.specs.ResolvedStmts.{option_back, statement_back, statements_back, arm_back, arms_back, is_option_within, is_fit, is_arm_fit, are_fit, are_arms_fit}
 use Rattle.std.proofs.lemmas.Bool.{and_from, and_parts, lt-ltb}
 use Rattle.std.proofs.lemmas.List.{map-append}
 use Rattle.fl_ast.specs.Tree.{Expressions, Designator, branch, loop}
 use Rattle.resolved.specs.declared.resolved.ResolvedExpr.{ResolvedExpr}
-use Rattle.resolved.specs.ResolvedExprs.{slot_name, expression_back, all_of, is_within, are_within}
+use Rattle.resolved.specs.ResolvedExprs.{slot_name, expression_back, condition_back, is_condition_within, all_of, is_within, are_within}
 
 later : (s : Shape) (es : List Shape) (x : List ℕ) (k : ℕ) (o : Option ℕ) → ((j : ℕ) → o ≡ Some j → slot_name es j ≡ x) → option_map suc o ≡ Some k → slot_name (s ∷ es) k ≡ x
 later s es x k None f e = cc
@@ -110,3 +110,11 @@ do_back shapes stmt line number directive head body e = search (rules, statement
 pub if_back : (shapes : List Shape) (stmt : ResolvedStmt) (line : ℕ) (arms : List ResolvedArm) (other : List ResolvedStmt) → stmt ≡ stmts.If line arms other
     → statement_back shapes stmt ≡ branch line (arms_back shapes arms) (statements_back shapes other)
 if_back shapes stmt line arms other e = search (rules, statement_lemmas)
+
+pub arm_fit : (names : Names) (a : ResolvedArm) → is_arm_fit names a ≡ true → (is_condition_within (length names.0) a.test ≡ true) × (are_fit names a.body ≡ true)
+arm_fit names a h =
+    let f : is_arm_fit names a ≡ (is_condition_within (length names.0) a.test && are_fit names a.body) = search (rules, statement_lemmas) in
+    and_parts (is_condition_within (length names.0) a.test) (are_fit names a.body) (sym f ∙ h)
+
+pub one_arm_back : (shapes : List Shape) (a : ResolvedArm) → arm_back shapes a ≡ (condition_back shapes a.test, statements_back shapes a.body)
+one_arm_back shapes a = search (rules, statement_lemmas)

@@ -4,15 +4,15 @@ use Rattle.store_core.specs.Keys.{place_in_slot}
 use Rattle.resolved.specs.SlotTables.{table_site}
 use Rattle.resolved.specs.ResolvedExprs.{slot_name}
 use Rattle.resolved.specs.ResolvedStmts.{statement_back, statements_back, arms_back, are_fit, are_arms_fit}
-use Rattle.dual_meaning.specs.Counted.{counted_turns, counted_turn, counted_run, counted_all, counted_arms}
-use Rattle.dual_meaning.specs.Running.{round_count, counted_round}
+use Rattle.dual_meaning.specs.Counted.{counted_turns, counted_turn, counted_begun, counted_all, counted_arms}
+use Rattle.dual_meaning.specs.Running.{counted_round}
 use Rattle.dual_meaning.proofs.statements.+run.Given as goal
 
 -- the run is that of the arms that are left
-abbrev pub invariant-run_statement-loop-arm : goal.invariant-run_statement-loop-arm
-invariant-run_statement-loop-arm g l = record {
+abbrev pub invariant-run_begun-loop-arm : goal.invariant-run_begun-loop-arm
+invariant-run_begun-loop-arm g l = record {
   rest : counted_arms (arms_back l.table.0 (drop l.arm-index l.arm-items)) l.line (counted_all (statements_back l.table.0 l.other) (table_site l.table)) (table_site l.table) l.progress.cells.items l.progress.left
-      ≡ counted_run (statement_back l.table.0 l.stmt) (table_site l.table) l.initial.progress.cells.items l.initial.progress.left;
+      ≡ counted_begun (statement_back l.table.0 l.stmt) (table_site l.table) l.initial.progress.cells.items l.initial.progress.left;
   fit : are_arms_fit l.table (drop l.arm-index l.arm-items) ≡ true;
   ticks : l.steps + l.progress.left ≡ l.initial.steps + l.initial.progress.left;
 }
