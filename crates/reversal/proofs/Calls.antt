@@ -3,8 +3,11 @@ use Rattle.std.proofs.Common.{◌≡◌, List, [], ◌∷◌, map, refl, ap, ◌
 use Rattle.fl_ast.specs.declared.expr.Expr.{Expr}
 use Rattle.fl_ast.specs.declared.adjoint.AExpr.{AExpr}
 use Rattle.fl_ast.specs.Tree.{expr_tree, expr_trees}
-use Rattle.fl_ast.specs.AdjointTree.{aexpr_tree, aexpr_trees, adjoint_expressions_of, adjoint_expression}
-use Rattle.reversal.specs.Reversed.{in_adjoint, in_adjoint_of, all_in_adjoint}
+use Rattle.fl_ast.specs.AdjointTree.{AdjointExpression, aexpr_tree, aexpr_trees, adjoint_expressions_of, adjoint_expression}
+use Rattle.adjoint_rules.specs.Expressions.{in_adjoint, all_in_adjoint}
+
+abbrev pub in_adjoint_of : Expr → AdjointExpression
+in_adjoint_of e = in_adjoint (expr_tree e)
 
 each : (es : List Expr) → adjoint_expressions_of (map in_adjoint_of es) ≡ all_in_adjoint (expr_trees es)
 each [] = refl

@@ -1,10 +1,9 @@
 //! Adjoint trees of programs.
 #![tactic(auto)]
 
-mod declare;
-mod increments;
+mod expression;
+mod factor;
+mod growth;
 mod name;
-mod statement;
-mod unit;
-
-pub use unit::reverse;
+mod plain;
+mod scope;

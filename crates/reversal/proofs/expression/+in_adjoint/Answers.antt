@@ -1,8 +1,8 @@
 use Rattle.std.proofs.Common.{map, ap, ◌∙◌}
 use Rattle.std.proofs.lemmas.List.{take_all}
-use Rattle.reversal.specs.Reversed.{in_adjoint_of}
+use Rattle.reversal.proofs.Calls.{in_adjoint_of}
 use Rattle.reversal.proofs.Calls.{finished}
-use Rattle.reversal.proofs.increments.+in_adjoint.Goals as goal
+use Rattle.reversal.proofs.expression.+in_adjoint.Goals as goal
 
 pub all_in_adjoint-returns : goal.all_in_adjoint-returns
 all_in_adjoint-returns t c =
