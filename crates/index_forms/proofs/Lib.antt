@@ -4,4 +4,8 @@ mod TermPlaces
 mod Seens
 mod Bounds
 mod Parts
+mod Origins
+mod Linears
+mod NodeForms
+mod Groups
 mod Examples

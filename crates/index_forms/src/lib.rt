@@ -4,7 +4,13 @@
 mod comparison;
 mod difference;
 mod form;
+mod linear;
+mod nodes;
+mod origin;
+mod reads;
 mod row;
+mod scalar;
+mod scene;
 mod sum;
 
 pub use difference::subtract;
