@@ -16,7 +16,7 @@ use Rattle.index_forms.specs.Walk.{Setting, viewed, with_group}
 use Rattle.index_forms.specs.Scenes.{setting_there, known_there, viewed_with}
 use Rattle.index_forms.specs.Listed.{forms_seen, all_forms_seen}
 
-with_both : (c : Setting) (k : Known) (os ps : List Occurrence) (fs : List Forms) → with_group c k (os ++ ps) fs ≡ with_group c k ps (with_group c k os fs)
+pub with_both : (c : Setting) (k : Known) (os ps : List Occurrence) (fs : List Forms) → with_group c k (os ++ ps) fs ≡ with_group c k ps (with_group c k os fs)
 with_both c k [] ps fs = refl
 with_both c k (o ∷ os) ps fs = with_both c k os ps (fs ++ subscript_forms (viewed c k (suc (length fs))) o.place.subscripts ∷ [])
 

@@ -8,4 +8,8 @@ mod Origins
 mod Linears
 mod NodeForms
 mod Groups
+mod WrittenNames
+mod Terms
+mod Walks
+mod KnownNames
 mod Examples

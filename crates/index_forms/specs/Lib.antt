@@ -11,3 +11,4 @@ pub mod Scenes
 pub mod Finding
 pub mod Linear
 pub mod Listed
+pub mod Increments

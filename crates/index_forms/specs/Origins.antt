@@ -1,5 +1,6 @@
 -- What is known of scalars, as a list of what was said of them last.
 use Rattle.std.specs.Prelude.{ℕ, if◌then◌else◌, bytes_eq, List, [], ◌∷◌, Option, Some, None}
+use Rattle.fl_ast.specs.Tree.{Expressions, no_expressions, expression}
 use Rattle.index_forms.specs.declared.form.Side.{Side}
 use Rattle.index_forms.specs.declared.origin.Origin.{Origin}
 use Rattle.index_forms.specs.declared.origin.Origin.TheVariants.{Unknown, Turn, Assigned}
@@ -29,3 +30,13 @@ form_by side x (Some o) known = origin_form side x o
 -- what is known with these entries, `first` being what was known before them
 abbrev pub known_with : Side → List Entry → Known → Known
 known_with side es first = λ x. form_by side x (origin_in es x) (first x)
+
+-- nothing is known of these names
+abbrev pub unknown_of : List (List ℕ) → List Entry
+unknown_of [] = []
+unknown_of (x ∷ xs) = record { name = x; origin = Unknown } ∷ unknown_of xs
+
+-- an assignment says something of a scalar alone
+abbrev pub assigned_origin : ℕ → Expressions → Origin
+assigned_origin n no_expressions = Assigned n
+assigned_origin n (expression e es) = Unknown

@@ -4,6 +4,8 @@
 mod comparison;
 mod difference;
 mod form;
+mod increments;
+mod known;
 mod linear;
 mod nodes;
 mod origin;
@@ -12,6 +14,8 @@ mod row;
 mod scalar;
 mod scene;
 mod sum;
+mod walk;
+mod written;
 
 pub use difference::subtract;
 pub use form::{Atom, Form, Side};

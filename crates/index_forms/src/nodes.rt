@@ -32,7 +32,7 @@ pub struct FormedNodes {
 }
 
 /// The next number. That there are more opaque nodes than 32 bits count is a want of memory.
-fn after(n: u32) -> Result<u32, Memory>
+pub fn after(n: u32) -> Result<u32, Memory>
     ensures { IfOk result (λ m. m ≡ suc n) }
 {
     match n.checked_add(1) {
