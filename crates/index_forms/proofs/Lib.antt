@@ -4,4 +4,12 @@ mod TermPlaces
 mod Seens
 mod Bounds
 mod Parts
+mod Origins
+mod Linears
+mod NodeForms
+mod Groups
+mod WrittenNames
+mod Terms
+mod Walks
+mod KnownNames
 mod Examples

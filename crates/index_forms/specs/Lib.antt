@@ -3,3 +3,12 @@ pub mod Seen
 pub mod Sums
 pub mod Places
 pub mod Parts
+pub mod Formed
+pub mod Origins
+pub mod Loops
+pub mod Walk
+pub mod Scenes
+pub mod Finding
+pub mod Linear
+pub mod Listed
+pub mod Increments

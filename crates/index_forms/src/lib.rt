@@ -4,8 +4,18 @@
 mod comparison;
 mod difference;
 mod form;
+mod increments;
+mod known;
+mod linear;
+mod nodes;
+mod origin;
+mod reads;
 mod row;
+mod scalar;
+mod scene;
 mod sum;
+mod walk;
+mod written;
 
 pub use difference::subtract;
 pub use form::{Atom, Form, Side};
