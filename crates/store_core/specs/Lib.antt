@@ -6,3 +6,5 @@ pub mod Places
 pub mod Filled
 pub mod Texts
 pub mod Tapes
+pub mod FlatTapes
+pub mod Stacks

@@ -4,6 +4,7 @@
 mod bound;
 mod declared;
 mod fill;
+mod iteration_tapes;
 mod layout;
 mod scope;
 mod tape;
@@ -13,6 +14,7 @@ mod values;
 pub use bound::{Axis, declared_shape, size};
 pub use cells::Store;
 pub use declared::declaration;
+pub use iteration_tapes::IterationTapes;
 pub use layout::{Layout, LayoutError, Shape};
-pub use tape::{IterTape, IterationTapes, Tape};
+pub use tape::Tape;
 pub use values::{Args, Direction, Entry, Weights};

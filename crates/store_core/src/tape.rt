@@ -1,39 +1,36 @@
-ghost use Rattle.std.specs.Prelude.{◌≡◌, ◌∷◌, [], OnOk, OnErr};
-ghost use Rattle.store_core.specs.Tapes.{Item, word, IsWordOnTop};
+ghost use Rattle.std.specs.Prelude.{◌≡◌, ◌∷◌, [], OnOk, OnErr, slice_get, reverse};
+ghost use Rattle.std.specs.Option.{option_copied};
+ghost use Rattle.store_core.specs.Tapes.{Item, word, lists, IsWordOnTop, IsListOnTop, lists_among};
 
-use fl_base::{Items, Memory, Name};
+use crate::iteration_tapes::IterationTapes;
+use fl_base::Memory;
 use std::alloc::Global;
 use std::marker::Model;
 
-/// The words that one iteration of a parallel loop pushed.
+/// A list of iteration tapes on a tape, with the number of words below it.
 #[derive(Drop)]
-pub struct IterTape {
-    pub words: Items<u64>,
-}
-
-/// The tapes of one execution of a parallel loop: its number of iterations, its bounds as they were pushed, the values
-/// of the sequential loop variables from outside it, the outermost first, and a tape for each iteration.
-#[derive(Drop)]
-pub struct IterationTapes {
-    pub count: u64,
-    pub bounds: Items<i64>,
-    pub outer: Items<(Name, i64)>,
-    pub tapes: Items<IterTape>,
+pub(crate) struct Placed {
+    below: usize,
+    list: IterationTapes,
 }
 
 /// A stack of what the forward run keeps for the reverse one, seen as the list of its items, the top first.
 #[derive(Drop)]
 pub struct Tape {
     words: Vec<u64>,
+    lists: Vec<Placed>,
 }
 
 impl Model for Tape {
-    ghost use Rattle.std.specs.Prelude.{List, map, reverse};
-    ghost use Rattle.store_core.specs.Tapes.{Item, word};
+    ghost use Rattle.std.specs.Prelude.{List, length, reverse};
+    ghost use Rattle.store_core.specs.Tapes.{Item};
+    ghost use Rattle.store_core.specs.Stacks.{stack, AreBelow};
 
     ghost Value = { List Item };
 
-    ghost view = { λ tape. map word (reverse tape.words.items) };
+    ghost view = { λ tape. stack (reverse tape.words.items) (reverse tape.lists.items) };
+
+    ghost invariant = { λ tape. AreBelow (reverse tape.lists.items) (length tape.words.items) };
 }
 
 impl Tape {
@@ -43,6 +40,7 @@ impl Tape {
     {
         Tape {
             words: Vec::new(alloc),
+            lists: Vec::new(alloc),
         }
     }
 
@@ -63,6 +61,37 @@ impl Tape {
         match self.words.pop() {
             Some(value) => value,
             None => unreachable!(),
+        }
+    }
+
+    /// Puts the tapes of a parallel loop's iterations on top. Where memory is wanting the tape is as before.
+    pub fn put_list(&mut self, list: IterationTapes) -> Result<(), Memory>
+        ensures ok { OnOk result (self.new ≡ lists list ∷ self.old) }
+        ensures err { OnErr result (self.new ≡ self.old) }
+    {
+        let below = self.words.len();
+        self.lists.push(Placed { below, list })?;
+        Ok(())
+    }
+
+    /// Takes the list that is on top.
+    pub fn take_list(&mut self) -> IterationTapes
+        requires { IsListOnTop self.old }
+        ensures { self.old ≡ lists result ∷ self.new }
+    {
+        match self.lists.pop() {
+            Some(Placed { below: _, list }) => list,
+            None => unreachable!(),
+        }
+    }
+
+    /// The list with this number from the bottom, counted from 0. None exactly where there are fewer.
+    pub fn list(&self, number: u64) -> Option<&IterationTapes>
+        ensures { option_copied result ≡ slice_get (reverse (lists_among self.now)) number }
+    {
+        match self.lists.get(number as usize) {
+            Some(placed) => Some(&placed.list),
+            None => None,
         }
     }
 }
