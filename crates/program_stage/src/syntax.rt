@@ -1,5 +1,6 @@
-ghost use Rattle.std.specs.Prelude.{◌+◌, ◌^◌, ◌<◌, length};
+ghost use Rattle.std.specs.Prelude.{◌+◌, ◌^◌, ◌<◌, length, IfOk};
 ghost use Rattle.ending.specs.Stage.{IsPart, IsSaying};
+ghost use Rattle.fl_ast.specs.Readable.{IsReadable};
 ghost use Rattle.program_stage.specs.Parsing.{say_parse, say_clause, parsed_stage};
 ghost use Rattle.tokens.specs.Spans.{Are_spans};
 ghost use Rattle.tokens.specs.Spelled.{AreSpelled};
@@ -44,7 +45,8 @@ pub(crate) fn program_of(alloc: Global, text: &[u8], tokens: &[Token]) -> Result
     requires spans { Are_spans text.now tokens.now }
     requires fits { length text.now + 1 < 2 ^ 32 }
     requires spelled { AreSpelled text.now 0 tokens.now }
-    ensures { IsPart (λ program. program) (parsed_stage text.now tokens.now) result }
+    ensures part { IsPart (λ program. program) (parsed_stage text.now tokens.now) result }
+    ensures readable { IfOk result IsReadable }
 {
     match parse(alloc, text, tokens) {
         Ok(program) => Ok(program),

@@ -1,4 +1,5 @@
 ghost use Rattle.ending.specs.Stage.{IsPart, IsSaying};
+ghost use Rattle.fl_ast.specs.Readable.{IsReadable};
 ghost use Rattle.program_stage.specs.Typing.{say_type, judged_stage, built_stage, typed_stage};
 
 use crate::line::{refused_line, refused_word};
@@ -38,6 +39,7 @@ fn type_refused(alloc: Global, error: TypeError) -> Early
 }
 
 fn judge(alloc: Global, program: &Program) -> Result<(), Early>
+    requires { IsReadable program.now }
     ensures { IsPart (λ _. tt {0}) (judged_stage program.now) result }
 {
     match typing::check(alloc, program) {
@@ -56,6 +58,7 @@ fn built_of(alloc: Global, program: Program) -> Result<Typed, Early>
 }
 
 pub(crate) fn typed_of(alloc: Global, program: Program) -> Result<Typed, Early>
+    requires { IsReadable program }
     ensures { IsPart (λ typed. typed) (typed_stage program) result }
 {
     judge(alloc, &program)?;

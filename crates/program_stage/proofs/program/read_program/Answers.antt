@@ -8,8 +8,8 @@ returns-in_err-tokens c = ends_in c.in_err-tokens.ensures.part c.from_residual.e
 pub returns-in_err-program : goal.returns-in_err-program
 unfolding Rattle.program_stage.specs.Programs.source_stage
 returns-in_err-program c =
-    goes_in c.in_ok-tokens.ensures.part (ends_in (rw c.deref.ensures.value at c.in_err-program.ensures) c.from_residual-in_err-program.ensures)
+    goes_in c.in_ok-tokens.ensures.part (ends_in (rw c.deref.ensures.value at c.in_err-program.ensures.part) c.from_residual-in_err-program.ensures)
 
 pub returns : goal.returns
 unfolding Rattle.program_stage.specs.Programs.source_stage
-returns c = goes_in c.in_ok-tokens.ensures.part (goes_in (rw c.deref.ensures.value at c.in_ok-program.ensures) c.typed_of.ensures)
+returns c = goes_in c.in_ok-tokens.ensures.part (goes_in (rw c.deref.ensures.value at c.in_ok-program.ensures.part) c.typed_of.ensures)
