@@ -1,5 +1,5 @@
 -- What is known with further entries.
-use Rattle.std.proofs.Common.{◌≡◌, ℕ, zero, suc, ◌<◌, ◌≤◌, Bool, true, false, ◌||◌, if◌then◌else◌, bytes_eq, List, [], ◌∷◌, ◌++◌, map, drop, length, get_or, Option, Some, None, refl, sym, ap, ◌∙◌, subst, arith}
+use Rattle.std.proofs.Common.{◌≡◌, ℕ, suc, ◌<◌, ◌≤◌, Bool, true, false, ◌||◌, if◌then◌else◌, bytes_eq, List, [], ◌∷◌, ◌++◌, drop, length, get_or, Option, Some, None, refl, sym, ap, ◌∙◌, subst, arith}
 use Rattle.std.proofs.Math.Seq.{drop-cons}
 use Rattle.std.proofs.lemmas.List.{drop_all}
 use Rattle.fl_ast.specs.declared.expr.Expr as program_expr
@@ -7,7 +7,7 @@ use Rattle.fl_ast.specs.Tree.{Designator, Expressions, no_expressions, expressio
 use Rattle.fl_types.specs.Sharing.{has_name}
 use Rattle.index_forms.specs.declared.form.Side.{Side}
 use Rattle.index_forms.specs.declared.origin.Origin.{Origin}
-use Rattle.index_forms.specs.declared.origin.Origin.TheVariants.{Unknown, Turn, Assigned}
+use Rattle.index_forms.specs.declared.origin.Origin.TheVariants.{Unknown, Turn}
 use Rattle.index_forms.specs.declared.origin.Entry.{Entry}
 use Rattle.index_forms.specs.declared.scene.Scene.{Scene}
 use Rattle.index_forms.specs.Form.{Form}

@@ -13,3 +13,4 @@ mod Terms
 mod Walks
 mod KnownNames
 mod Examples
+mod LoopExamples

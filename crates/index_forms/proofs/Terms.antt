@@ -7,11 +7,11 @@ use Rattle.fl_ast.specs.Same.{same_expression}
 use Rattle.fl_types.specs.declared.access.AccessKind.{AccessKind}
 use Rattle.fl_types.specs.declared.access.AccessKind.TheVariants.{Read, Write}
 use Rattle.fl_types.specs.declared.increment.IncrementForm.TheVariants.{Chain, Sum}
-use Rattle.fl_types.specs.Increment.{Signed, target_of, chain, longer, first_of_sum, are_free_of, if_free, either, rest_terms, increment_form, increment_terms}
-use Rattle.fl_types.specs.Accesses.{Scope, Occurrence, access, reads, reads_all, term_reads, step_reads, increment_kind, assignment_accesses}
+use Rattle.fl_types.specs.Increment.{Signed, target_of, chain, longer, first_of_sum, are_free_of, if_free, either, increment_form, increment_terms}
+use Rattle.fl_types.specs.Accesses.{Occurrence, access, reads, reads_all, term_reads, increment_kind, assignment_accesses}
 use Rattle.index_forms.specs.Form.{Forms}
 use Rattle.index_forms.specs.Formed.{Known}
-use Rattle.index_forms.specs.Walk.{Setting, with_group, bounds_reads}
+use Rattle.index_forms.specs.Walk.{Setting, with_group}
 use Rattle.index_forms.specs.Increments.{value_reads, WithTerms, adds_terms}
 use Rattle.index_forms.proofs.Groups.{with_both, two_groups}
 

@@ -1,10 +1,10 @@
 -- Walks over lists of statements and arms.
-use Rattle.std.proofs.Common.{◌≡◌, ℕ, zero, suc, ◌+◌, ◌<◌, ◌≤◌, List, [], ◌∷◌, ◌++◌, drop, length, get_or, refl, sym, ap, ◌∙◌, subst, arith}
+use Rattle.std.proofs.Common.{◌≡◌, ℕ, suc, ◌+◌, ◌<◌, ◌≤◌, List, [], ◌∷◌, drop, length, get_or, refl, sym, ap, ◌∙◌, subst, arith}
 use Rattle.std.proofs.lemmas.List.{drop_all}
 use Rattle.std.proofs.Math.Seq.{drop-cons}
 use Rattle.fl_ast.specs.declared.stmt.Stmt as program_stmt
 use Rattle.fl_ast.specs.declared.stmt.Arm as program_arm
-use Rattle.fl_ast.specs.Tree.{Statements, Condition, stmt_tree, stmt_trees, arm_tree, arm_trees}
+use Rattle.fl_ast.specs.Tree.{stmt_tree, stmt_trees, arm_tree, arm_trees}
 use Rattle.fl_types.specs.Accesses.{statement_count, statements_count, arms_count, condition_reads}
 use Rattle.index_forms.specs.Form.{Forms}
 use Rattle.index_forms.specs.Formed.{Known}

@@ -1,11 +1,11 @@
 -- Names that lists of statements write.
-use Rattle.std.proofs.Common.{◌≡◌, ℕ, zero, suc, ◌<◌, ◌≤◌, List, [], ◌∷◌, ◌++◌, map, drop, length, get_or, refl, sym, ap, ◌∙◌, subst, arith}
-use Rattle.std.proofs.lemmas.List.{drop_all, append_assoc, append-nil}
+use Rattle.std.proofs.Common.{◌≡◌, ℕ, Bool, suc, ◌<◌, ◌≤◌, List, [], ◌∷◌, ◌++◌, drop, length, get_or, refl, sym, ap, ◌∙◌, subst}
+use Rattle.std.proofs.lemmas.List.{drop_all}
 use Rattle.std.proofs.Math.Seq.{drop-cons}
 use Rattle.fl_ast.specs.declared.stmt.Stmt as program_stmt
 use Rattle.fl_ast.specs.declared.stmt.Arm as program_arm
 use Rattle.fl_ast.specs.Tree.{stmt_tree, stmt_trees, arm_tree, arm_trees}
-use Rattle.index_forms.specs.Loops.{written_by, written_in, written_in_arms}
+use Rattle.index_forms.specs.Loops.{names_by, names_in, names_in_arms}
 
 abbrev N : Type 0
 N = List (List ℕ)
@@ -25,22 +25,22 @@ pub and_list : (a : N) (x : List ℕ) (c n m : N) → n ≡ a ++ x ∷ [] → m 
 and_list a x c n m e d = two_lists a (x ∷ []) c n m e d
 
 -- the names so far, and those of the rest, are all
-pub stmts_more : (ss : List program_stmt.Stmt) (i : ℕ) (s : program_stmt.Stmt) (a b all : N) → i < length ss → get_or ss i s ≡ s → b ≡ a ++ written_by (stmt_tree s) →
-    a ++ written_in (stmt_trees (drop i ss)) ≡ all → b ++ written_in (stmt_trees (drop (suc i) ss)) ≡ all
-stmts_more ss i s a b all h g e d =
+pub stmts_more : (targets : Bool) (ss : List program_stmt.Stmt) (i : ℕ) (s : program_stmt.Stmt) (a b all : N) → i < length ss → get_or ss i s ≡ s → b ≡ a ++ names_by targets (stmt_tree s) →
+    a ++ names_in targets (stmt_trees (drop i ss)) ≡ all → b ++ names_in targets (stmt_trees (drop (suc i) ss)) ≡ all
+stmts_more targets ss i s a b all h g e d =
     let f : drop i ss ≡ s ∷ drop (suc i) ss = drop-cons ss i s h ∙ ap (λ (z : program_stmt.Stmt). z ∷ drop (suc i) ss) g in
-    ap (λ (l : N). l ++ written_in (stmt_trees (drop (suc i) ss))) e ∙ assoc a (written_by (stmt_tree s)) (written_in (stmt_trees (drop (suc i) ss)))
-    ∙ ap (λ (l : List program_stmt.Stmt). a ++ written_in (stmt_trees l)) (sym f) ∙ d
+    ap (λ (l : N). l ++ names_in targets (stmt_trees (drop (suc i) ss))) e ∙ assoc a (names_by targets (stmt_tree s)) (names_in targets (stmt_trees (drop (suc i) ss)))
+    ∙ ap (λ (l : List program_stmt.Stmt). a ++ names_in targets (stmt_trees l)) (sym f) ∙ d
 
-pub stmts_done : (ss : List program_stmt.Stmt) (i : ℕ) (a all : N) → length ss ≤ i → a ++ written_in (stmt_trees (drop i ss)) ≡ all → a ≡ all
-stmts_done ss i a all h d = sym (none a) ∙ subst (λ (l : List program_stmt.Stmt). a ++ written_in (stmt_trees l) ≡ all) (drop_all i ss h) d
+pub stmts_done : (targets : Bool) (ss : List program_stmt.Stmt) (i : ℕ) (a all : N) → length ss ≤ i → a ++ names_in targets (stmt_trees (drop i ss)) ≡ all → a ≡ all
+stmts_done targets ss i a all h d = sym (none a) ∙ subst (λ (l : List program_stmt.Stmt). a ++ names_in targets (stmt_trees l) ≡ all) (drop_all i ss h) d
 
-pub arms_more : (ss : List program_arm.Arm) (i : ℕ) (s : program_arm.Arm) (a b all : N) → i < length ss → get_or ss i s ≡ s → b ≡ a ++ written_in (arm_tree s).1 →
-    a ++ written_in_arms (arm_trees (drop i ss)) ≡ all → b ++ written_in_arms (arm_trees (drop (suc i) ss)) ≡ all
-arms_more ss i s a b all h g e d =
+pub arms_more : (targets : Bool) (ss : List program_arm.Arm) (i : ℕ) (s : program_arm.Arm) (a b all : N) → i < length ss → get_or ss i s ≡ s → b ≡ a ++ names_in targets (arm_tree s).1 →
+    a ++ names_in_arms targets (arm_trees (drop i ss)) ≡ all → b ++ names_in_arms targets (arm_trees (drop (suc i) ss)) ≡ all
+arms_more targets ss i s a b all h g e d =
     let f : drop i ss ≡ s ∷ drop (suc i) ss = drop-cons ss i s h ∙ ap (λ (z : program_arm.Arm). z ∷ drop (suc i) ss) g in
-    ap (λ (l : N). l ++ written_in_arms (arm_trees (drop (suc i) ss))) e ∙ assoc a (written_in (arm_tree s).1) (written_in_arms (arm_trees (drop (suc i) ss)))
-    ∙ ap (λ (l : List program_arm.Arm). a ++ written_in_arms (arm_trees l)) (sym f) ∙ d
+    ap (λ (l : N). l ++ names_in_arms targets (arm_trees (drop (suc i) ss))) e ∙ assoc a (names_in targets (arm_tree s).1) (names_in_arms targets (arm_trees (drop (suc i) ss)))
+    ∙ ap (λ (l : List program_arm.Arm). a ++ names_in_arms targets (arm_trees l)) (sym f) ∙ d
 
-pub arms_done : (ss : List program_arm.Arm) (i : ℕ) (a all : N) → length ss ≤ i → a ++ written_in_arms (arm_trees (drop i ss)) ≡ all → a ≡ all
-arms_done ss i a all h d = sym (none a) ∙ subst (λ (l : List program_arm.Arm). a ++ written_in_arms (arm_trees l) ≡ all) (drop_all i ss h) d
+pub arms_done : (targets : Bool) (ss : List program_arm.Arm) (i : ℕ) (a all : N) → length ss ≤ i → a ++ names_in_arms targets (arm_trees (drop i ss)) ≡ all → a ≡ all
+arms_done targets ss i a all h d = sym (none a) ∙ subst (λ (l : List program_arm.Arm). a ++ names_in_arms targets (arm_trees l) ≡ all) (drop_all i ss h) d

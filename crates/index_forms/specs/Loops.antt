@@ -1,30 +1,39 @@
 -- Parallel loops with their heads, and what is known of scalars at the start of an iteration.
-use Rattle.std.specs.Prelude.{ℕ, Bool, not, ◌&&◌, ◌||◌, if◌then◌else◌, nat_lt, nat_eq, bytes_eq, ℤ, pos, neg_ℤ, List, [], ◌∷◌, ◌++◌, find, option_map, Option, Some, None}
+use Rattle.std.specs.Prelude.{ℕ, Bool, true, false, not, ◌&&◌, ◌||◌, if◌then◌else◌, nat_lt, nat_eq, bytes_eq, ℤ, pos, neg_ℤ, List, [], ◌∷◌, ◌++◌, find, option_map, Option, Some, None}
 use Rattle.fl_ast.specs.declared.kind.Kind.TheVariants as kind
 use Rattle.fl_ast.specs.declared.decl.Decl.{Decl}
 use Rattle.fl_ast.specs.Tree.{Expression, literal, minus, Statement, assignment, branch, loop, Statements, no_statements, statement, Arms, no_arms, arm}
 use Rattle.fl_types.specs.Nests.{Head, further_head, iteration_body}
-use Rattle.fl_types.specs.Sharing.{has_name, is_ring_name, ParallelLoop}
-use Rattle.fl_types.specs.Accesses.{scope_of}
+use Rattle.fl_types.specs.Sharing.{has_name, is_ring_name, makes_accesses, ParallelLoop}
+use Rattle.fl_types.specs.Accesses.{Scope}
 use Rattle.index_forms.specs.declared.form.Side.{Side}
 use Rattle.index_forms.specs.Form.{Atom, Form, form, no_terms, start, iter, inv, start2, iter2}
 use Rattle.index_forms.specs.Sums.{plus_scaled}
 use Rattle.index_forms.specs.Formed.{Known, atom_form}
 
--- ---- names that a tree writes: targets of assignments and variables of loops, in textual order
+-- ---- names that a tree writes: the variables of its loops and, where asked for, the targets of its assignments, in textual order
 abbrev mutual
-  pub written_by : Statement → List (List ℕ)
-  written_by (assignment line atomic p e) = p.name ∷ []
-  written_by (branch line arms other) = written_in_arms arms ++ written_in other
-  written_by (loop line number directive var first last step body) = var ∷ written_in body
+  pub names_by : (targets : Bool) → Statement → List (List ℕ)
+  names_by targets (assignment line atomic p e) = if targets then p.name ∷ [] else []
+  names_by targets (branch line arms other) = names_in_arms targets arms ++ names_in targets other
+  names_by targets (loop line number directive var first last step body) = var ∷ names_in targets body
 
-  pub written_in : Statements → List (List ℕ)
-  written_in no_statements = []
-  written_in (statement s ss) = written_by s ++ written_in ss
+  pub names_in : (targets : Bool) → Statements → List (List ℕ)
+  names_in targets no_statements = []
+  names_in targets (statement s ss) = names_by targets s ++ names_in targets ss
 
-  pub written_in_arms : Arms → List (List ℕ)
-  written_in_arms no_arms = []
-  written_in_arms (arm test body arms) = written_in body ++ written_in_arms arms
+  pub names_in_arms : (targets : Bool) → Arms → List (List ℕ)
+  names_in_arms targets no_arms = []
+  names_in_arms targets (arm test body arms) = names_in targets body ++ names_in_arms targets arms
+
+abbrev pub written_by : Statement → List (List ℕ)
+written_by s = names_by true s
+
+abbrev pub written_in : Statements → List (List ℕ)
+written_in ss = names_in true ss
+
+abbrev pub written_in_arms : Arms → List (List ℕ)
+written_in_arms arms = names_in_arms true arms
 
 -- ---- parallel loops
 
@@ -106,6 +115,10 @@ known_at_start side l = λ x.
     else if bytes_eq x l.head.var then Some (variable_form start (iter side) l.head)
     else known_of_further side x (further l)
 
+-- which of the names make accesses; which are reductions plays no part in forms
+abbrev pub forms_scope : List Decl → HeadedLoop → Scope
+forms_scope decls l = record { accessed = makes_accesses l.loop.outer l.loop.var l.loop.directive l.loop.body; pluses = λ x. false; ring = is_ring_name decls }
+
 -- a name whose elements are the same throughout the loop: of the index kind, and not written
 abbrev pub is_fixed : List Decl → HeadedLoop → List ℕ → Bool
-is_fixed decls l x = (scope_of decls l.loop).accessed x && not (has_name x (written_in (inside l)) || is_ring_name decls x)
+is_fixed decls l x = makes_accesses l.loop.outer l.loop.var l.loop.directive l.loop.body x && not (has_name x (written_in (inside l)) || is_ring_name decls x)

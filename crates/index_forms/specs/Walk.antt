@@ -4,11 +4,11 @@ use Rattle.fl_ast.specs.declared.decl.Decl.{Decl}
 use Rattle.fl_ast.specs.Tree.{Expression, Expressions, no_expressions, expression, Designator, Statement, assignment, branch, loop, Statements, no_statements, statement, Arms, no_arms, arm}
 use Rattle.fl_types.specs.Sharing.{has_name}
 use Rattle.fl_types.specs.Increment.{increment_terms}
-use Rattle.fl_types.specs.Accesses.{Scope, scope_of, Occurrence, reads, step_reads, condition_reads, assignment_accesses, statement_count, statements_count}
+use Rattle.fl_types.specs.Accesses.{Scope, Occurrence, reads, step_reads, condition_reads, assignment_accesses, statement_count, statements_count}
 use Rattle.index_forms.specs.declared.form.Side.{Side}
 use Rattle.index_forms.specs.Form.{Form, Forms, inner, version}
 use Rattle.index_forms.specs.Formed.{Known, Viewed, atom_form, subscript_forms}
-use Rattle.index_forms.specs.Loops.{HeadedLoop, inside, known_at_start, is_fixed, written_in, written_in_arms}
+use Rattle.index_forms.specs.Loops.{HeadedLoop, inside, known_at_start, forms_scope, is_fixed, written_in, written_in_arms}
 
 -- what a walk goes by: the side, which names make accesses, and which index arrays the loop doesn't assign
 pub record Setting : Type 0 where
@@ -17,7 +17,7 @@ pub record Setting : Type 0 where
   pub fixed : List ℕ → Bool
 
 abbrev pub setting_of : List Decl → HeadedLoop → Side → Setting
-setting_of decls l side = record { side = side; scope = scope_of decls l.loop; fixed = is_fixed decls l }
+setting_of decls l side = record { side = side; scope = forms_scope decls l; fixed = is_fixed decls l }
 
 -- ---- what is known
 

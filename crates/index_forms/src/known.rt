@@ -9,7 +9,7 @@ ghost use Rattle.index_forms.specs.Walk.{known_after, known_inside, without, ass
 
 use crate::origin::{Entry, Origin};
 use crate::scene::Scene;
-use crate::written::{push_written_by, written};
+use crate::written::{push_names_by, written};
 use fl_ast::{Expr, Place, Stmt};
 use fl_base::{Items, Memory, Name};
 use std::alloc::Global;
@@ -108,7 +108,7 @@ fn hide_written(
     ensures { OnOk result (known_there scene.now entries.new ≡ without (written_by (stmt_tree stmt.now)) (known_there scene.now entries.old)) }
 {
     let mut names = Items::new(alloc);
-    push_written_by(alloc, stmt, &mut names)?;
+    push_names_by(alloc, true, stmt, &mut names)?;
     hide(alloc, scene, names.as_slice(), entries)?;
     Ok(())
 }

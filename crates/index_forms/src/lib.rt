@@ -19,3 +19,5 @@ mod written;
 
 pub use difference::subtract;
 pub use form::{Atom, Form, Side};
+pub use scene::{Counter, Scene};
+pub use walk::forms_of_accesses;

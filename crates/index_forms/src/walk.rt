@@ -1,6 +1,6 @@
 //! The forms of a loop's accesses: a walk over the statements in textual order.
 
-ghost use Rattle.std.specs.Prelude.{◌≡◌, ◌+◌, OnOk, IfOk};
+ghost use Rattle.std.specs.Prelude.{◌≡◌, ◌+◌, [], OnOk, IfOk};
 ghost use Rattle.fl_ast.specs.Tree.{stmt_tree, stmt_trees, arm_trees};
 ghost use Rattle.fl_types.specs.Accesses.{statement_count, statements_count, arms_count};
 ghost use Rattle.index_forms.specs.Walk.{Rest, with_statement, with_statements, with_arms};
@@ -112,4 +112,17 @@ fn walk_arms(
         hide(alloc, scene, names.as_slice(), entries)?;
     }
     Ok(next)
+}
+
+/// The forms of all accesses of a loop's statements, in the order of the accesses, on the scene's side.
+pub fn forms_of_accesses(
+    alloc: Global,
+    scene: &Scene,
+    body: &[Stmt],
+) -> Result<Items<Items<Form>>, Memory>
+    ensures { IfOk result (λ all. all_forms_seen all ≡ with_statements (setting_there scene.now) 1 (known_there scene.now []) (stmt_trees body.now) []) }
+{
+    let mut all = Items::new(alloc);
+    walk_statements(alloc, scene, 1, Items::new(alloc), body, &mut all)?;
+    Ok(all)
 }

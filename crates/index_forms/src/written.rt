@@ -2,53 +2,70 @@
 
 ghost use Rattle.std.specs.Prelude.{◌≡◌, ◌++◌, OnOk, IfOk};
 ghost use Rattle.fl_ast.specs.Tree.{stmt_tree, stmt_trees, arm_trees};
-ghost use Rattle.index_forms.specs.Loops.{written_by, written_in, written_in_arms};
+ghost use Rattle.index_forms.specs.Loops.{names_by, names_in, names_in_arms, written_in};
 
 use fl_ast::{Arm, Stmt};
 use fl_base::{Items, Memory, Name};
 use std::alloc::Global;
 
-/// Adds the names that a statement writes: targets of assignments and variables of loops.
-#[cycle(push_written_by)]
+/// Adds the names that a statement writes: variables of loops and, where asked for, targets of assignments.
+#[cycle(push_names_by)]
 #[tactic(auto, using(crate::proofs::WrittenNames::two_lists, crate::proofs::WrittenNames::and_list))]
-pub fn push_written_by(alloc: Global, stmt: &Stmt, names: &mut Items<Name>) -> Result<(), Memory>
-    ensures { OnOk result (names.new ≡ names.old ++ written_by (stmt_tree stmt.now)) }
+pub fn push_names_by(
+    alloc: Global,
+    targets: bool,
+    stmt: &Stmt,
+    names: &mut Items<Name>,
+) -> Result<(), Memory>
+    ensures { OnOk result (names.new ≡ names.old ++ names_by targets (stmt_tree stmt.now)) }
 {
     match stmt {
         Stmt::Assign { target, .. } => {
-            names.push(target.name.clone(alloc)?)?;
+            if targets {
+                names.push(target.name.clone(alloc)?)?;
+            }
             Ok(())
         }
         Stmt::If { arms, other, .. } => {
-            push_written_in_arms(alloc, arms.as_slice(), names)?;
-            push_written_in(alloc, other.as_slice(), names)?;
+            push_names_in_arms(alloc, targets, arms.as_slice(), names)?;
+            push_names_in(alloc, targets, other.as_slice(), names)?;
             Ok(())
         }
         Stmt::Do { var, body, .. } => {
             names.push(var.clone(alloc)?)?;
-            push_written_in(alloc, body.as_slice(), names)?;
+            push_names_in(alloc, targets, body.as_slice(), names)?;
             Ok(())
         }
     }
 }
 
-#[cycle(push_written_by)]
-fn push_written_in(alloc: Global, stmts: &[Stmt], names: &mut Items<Name>) -> Result<(), Memory>
-    ensures { OnOk result (names.new ≡ names.old ++ written_in (stmt_trees stmts.now)) }
+#[cycle(push_names_by)]
+pub fn push_names_in(
+    alloc: Global,
+    targets: bool,
+    stmts: &[Stmt],
+    names: &mut Items<Name>,
+) -> Result<(), Memory>
+    ensures { OnOk result (names.new ≡ names.old ++ names_in targets (stmt_trees stmts.now)) }
 {
     for i in 0..stmts.len() {
-        push_written_by(alloc, &stmts[i], names)?;
+        push_names_by(alloc, targets, &stmts[i], names)?;
     }
     Ok(())
 }
 
-#[cycle(push_written_by)]
-fn push_written_in_arms(alloc: Global, arms: &[Arm], names: &mut Items<Name>) -> Result<(), Memory>
-    ensures { OnOk result (names.new ≡ names.old ++ written_in_arms (arm_trees arms.now)) }
+#[cycle(push_names_by)]
+fn push_names_in_arms(
+    alloc: Global,
+    targets: bool,
+    arms: &[Arm],
+    names: &mut Items<Name>,
+) -> Result<(), Memory>
+    ensures { OnOk result (names.new ≡ names.old ++ names_in_arms targets (arm_trees arms.now)) }
 {
     for i in 0..arms.len() {
         let arm = &arms[i];
-        push_written_in(alloc, arm.body.as_slice(), names)?;
+        push_names_in(alloc, targets, arm.body.as_slice(), names)?;
     }
     Ok(())
 }
@@ -58,6 +75,6 @@ pub fn written(alloc: Global, stmts: &[Stmt]) -> Result<Items<Name>, Memory>
     ensures { IfOk result (λ names. names ≡ written_in (stmt_trees stmts.now)) }
 {
     let mut names = Items::new(alloc);
-    push_written_in(alloc, stmts, &mut names)?;
+    push_names_in(alloc, true, stmts, &mut names)?;
     Ok(names)
 }

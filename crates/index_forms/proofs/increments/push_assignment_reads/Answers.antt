@@ -1,4 +1,4 @@
-use Rattle.std.proofs.Common.{rules, ◌≡◌, [], ap, ◌∙◌, sym}
+use Rattle.std.proofs.Common.{rules, ◌≡◌, ap, ◌∙◌, sym}
 use Rattle.fl_ast.specs.declared.expr.Expr.{the_lemmas as expr_lemmas}
 use Rattle.fl_ast.specs.Tree.{expr_tree, expr_trees, place_tree}
 use Rattle.fl_types.specs.Increment.{increment_terms}

@@ -1,6 +1,6 @@
 use Rattle.std.proofs.Common.{rules, ◌≡◌, ℕ, List, [], ◌∷◌, ◌++◌, ap, sym, ◌∙◌}
 use Rattle.fl_ast.specs.declared.expr.Expr.{the_lemmas as expr_lemmas}
-use Rattle.fl_ast.specs.Tree.{Designator, Expressions, expr_trees, place_tree}
+use Rattle.fl_ast.specs.Tree.{Designator, expr_trees, place_tree}
 use Rattle.index_forms.specs.declared.origin.Origin.{Origin}
 use Rattle.index_forms.specs.declared.origin.Entry.{Entry}
 use Rattle.index_forms.specs.Origins.{assigned_origin}
