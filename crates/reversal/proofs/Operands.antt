@@ -1,5 +1,5 @@
 -- The operands of operations and calls.
-use Rattle.std.proofs.Common.{rules, ◌≡◌, ◌<◌, ◌≤◌, ℕ, Bool, false, List, [], ◌∷◌, ◌++◌, length, slice_index_or, Result, Ok, Err, OnOk, refl, ap, sym, ◌∙◌, append_assoc, arith}
+use Rattle.std.proofs.Common.{true, false, rules, ◌≡◌, ◌<◌, ◌≤◌, ℕ, Bool, List, [], ◌∷◌, ◌++◌, length, slice_index_or, Result, Ok, Err, OnOk, refl, ap, sym, ◌∙◌, append_assoc, arith}
 use Rattle.std.proofs.lemmas.List.{append-nil}
 use Rattle.fl_ast.specs.declared.kind.BinOp.{BinOp}
 use Rattle.fl_ast.specs.declared.kind.RelOp.{RelOp}
@@ -11,6 +11,8 @@ use Rattle.fl_ast.specs.Tree.{Expression, literal, relation, binary, power, expr
 use Rattle.fl_ast.specs.AdjointTree.{AdjointExpression, AdjointStatement}
 use Rattle.adjoint_rules.specs.Occurrences.{power_factors, either, minus_one}
 use Rattle.adjoint_rules.specs.Expressions.{product}
+use Rattle.fl_ast.specs.Same.{same_expression}
+use Rattle.reversal.specs.Chains.{is_link, is_difference, chain_growths}
 use Rattle.reversal.specs.Growth.{times, amount_at, sign_at_right, is_division, growths, growths_of_two, growths_of_one}
 
 pub tree_of : (e : Expr) (o : BinOp) (l r x y : Expr) → e ≡ Bin o l r → x ≡ l → y ≡ r → expr_tree e ≡ binary o (expr_tree x) (expr_tree y)
@@ -80,3 +82,16 @@ pub one_growths : (on atomic : List ℕ → Bool) (line : ℕ) (args : Expressio
     → args ≡ expression l no_expressions → more ≡ times amount (either minus_one 1 (relation rel.Lt l (literal 0 kind.Ring)))
     → new ≡ old ++ growths on atomic line l negative more → new ≡ old ++ growths_of_one on atomic line args negative amount
 one_growths on atomic line args l negative amount more old new h f e = e ∙ ap (λ x. old ++ x) (rw (h, f) refl)
+
+-- ---- chains
+
+pub link_alone : (on atomic : List ℕ → Bool) (line : ℕ) (t v : Expression) (o : BinOp) (l r : Expression) (turned : Bool) (amount : AdjointExpression) (old new : List AdjointStatement)
+    → v ≡ binary o l r → is_link o ≡ true → same_expression t l ≡ true → turned ≡ is_difference o
+    → new ≡ old ++ growths on atomic line r turned amount → new ≡ old ++ chain_growths on atomic line t v amount
+link_alone on atomic line t v o l r turned amount old new h k s d e = e ∙ ap (λ x. old ++ x) (rw (h, k, s, d) refl)
+
+pub link_after : (on atomic : List ℕ → Bool) (line : ℕ) (t v : Expression) (o : BinOp) (l r : Expression) (turned : Bool) (amount : AdjointExpression) (old mid new : List AdjointStatement)
+    → v ≡ binary o l r → is_link o ≡ true → same_expression t l ≡ false → turned ≡ is_difference o
+    → mid ≡ old ++ chain_growths on atomic line t l amount → new ≡ mid ++ growths on atomic line r turned amount → new ≡ old ++ chain_growths on atomic line t v amount
+link_after on atomic line t v o l r turned amount old mid new h k s d m e =
+    joined old mid new (chain_growths on atomic line t l amount) (growths on atomic line r turned amount) m e ∙ ap (λ x. old ++ x) (rw (h, k, s, d) refl)

@@ -1,6 +1,8 @@
 //! Adjoint trees of programs.
 #![tactic(auto)]
 
+mod chain;
+mod declare;
 mod expression;
 mod factor;
 mod growth;
