@@ -92,6 +92,13 @@ inside operand blank = blank && not operand
 abbrev pub closing : Bool → List Spaced
 closing operand = if operand then joined (codes ")") ∷ [] else []
 
+-- the sign of a negation, and an exponent
+abbrev pub sign_words : Bool → Bool → List Spaced
+sign_words operand blank = opening operand blank ++ spaced (inside operand blank) (codes "-") ∷ []
+
+abbrev pub raised_words : Bool → ℕ → List Spaced
+raised_words operand exponent = joined (codes "**") ∷ joined (decimal exponent) ∷ closing operand
+
 -- An expression, as an operand or whole, with a blank before it or not. Literals, places and calls need no brackets.
 abbrev mutual
   pub expression_words : Bool → Bool → Expression → List Spaced
@@ -162,6 +169,19 @@ abbrev mutual
   pub adjoints_from : Bool → AdjointExpressions → List Spaced
   adjoints_from later no_adjoint_expressions = []
   adjoints_from later (adjoint_expression a rest) = comma_if later ++ (adjoint_words false later a ++ adjoints_from true rest)
+
+-- the parts of a `merge`, and expressions in brackets
+abbrev pub merged_words : Bool → AdjointExpression → List Spaced
+merged_words blank a = spaced blank (codes "merge") ∷ joined (codes "(") ∷ adjoint_words false false a
+
+abbrev pub otherwise_words : AdjointExpression → List Spaced
+otherwise_words b = joined (codes ",") ∷ adjoint_words false true b
+
+abbrev pub tested_words : Condition → List Spaced
+tested_words test = joined (codes ",") ∷ (condition_words false true test ++ joined (codes ")") ∷ [])
+
+abbrev pub bracketed_adjoints : AdjointExpressions → List Spaced
+bracketed_adjoints args = joined (codes "(") ∷ (adjoints_from false args ++ joined (codes ")") ∷ [])
 
 abbrev pub adjoint_sum_words : Bool → Bool → AdjointExpression → List Spaced
 adjoint_sum_words operand blank (adjoint_binary op.Add a b) = adjoint_sum_words true blank a ++ (joined (codes "+") ∷ adjoint_words true false b)

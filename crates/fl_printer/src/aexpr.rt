@@ -1,13 +1,14 @@
 //! Expressions of adjoints as tokens.
 
-ghost use Rattle.std.specs.Prelude.{◌≡◌, ◌++◌, ◌∷◌, [], OnOk, false};
+ghost use Rattle.std.specs.Prelude.{◌≡◌, ◌++◌, ◌∷◌, [], OnOk, false, true};
+ghost use Rattle.fl_ast.specs.Tree.{cond_tree};
 ghost use Rattle.fl_ast.specs.AdjointTree.{aexpr_tree, aexpr_trees};
 ghost use Rattle.fl_printer.specs.Words as spec;
 
-use crate::expr::{cond, literal, place};
+use crate::expr::{cond, literal, place, raised, sign};
 use crate::sign::{function_text, operator_text};
-use crate::spaced::{Spaced, close, comma, joined, open, plain_number, word};
-use fl_ast::{AExpr, BinOp};
+use crate::spaced::{Spaced, close, comma, joined, open, word};
+use fl_ast::{AExpr, BinOp, Cond};
 use fl_base::{Items, Memory};
 use std::alloc::Global;
 
@@ -26,46 +27,106 @@ pub fn aexpr(
         AExpr::Lit { value, kind } => literal(alloc, line, blank, *value, *kind),
         AExpr::Get(found) => place(alloc, line, blank, found),
         AExpr::Neg(inner) => {
-            open(alloc, line, operand, blank)?;
-            word(alloc, line, blank && !operand, b"-")?;
-            aexpr(alloc, line, true, false, inner.get())?;
-            close(alloc, line, operand)
+            sign(alloc, line, operand, blank)?;
+            right_side(alloc, line, operand, inner.get())
         }
         AExpr::Bin { op, left, right } => {
-            open(alloc, line, operand, blank)?;
-            aexpr(alloc, line, true, blank && !operand, left.get())?;
+            left_side(alloc, line, operand, blank, left.get())?;
             joined(alloc, line, operator_text(*op))?;
-            aexpr(alloc, line, true, false, right.get())?;
-            close(alloc, line, operand)
+            right_side(alloc, line, operand, right.get())
         }
         AExpr::Pow { base, exponent } => {
-            open(alloc, line, operand, blank)?;
-            aexpr(alloc, line, true, blank && !operand, base.get())?;
-            joined(alloc, line, b"**")?;
-            plain_number(alloc, line, false, *exponent)?;
-            close(alloc, line, operand)
+            left_side(alloc, line, operand, blank, base.get())?;
+            raised(alloc, line, operand, *exponent)
         }
         AExpr::Call { fun, args } => {
             word(alloc, line, blank, function_text(*fun))?;
-            joined(alloc, line, b"(")?;
-            aexprs(alloc, line, args.as_slice())?;
-            joined(alloc, line, b")")
+            abracketed(alloc, line, args.as_slice())
         }
         AExpr::Merge {
             first,
             second,
             test,
         } => {
-            word(alloc, line, blank, b"merge")?;
-            joined(alloc, line, b"(")?;
-            aexpr(alloc, line, false, false, first.get())?;
-            joined(alloc, line, b",")?;
-            aexpr(alloc, line, false, true, second.get())?;
-            joined(alloc, line, b",")?;
-            cond(alloc, line, false, true, test)?;
-            joined(alloc, line, b")")
+            merged(alloc, line, blank, first.get())?;
+            otherwise(alloc, line, second.get())?;
+            tested(alloc, line, test)
         }
     }
+}
+
+/// Adds the left operand of an operation.
+#[cycle(adjoint_words)]
+fn left_side(
+    alloc: Global,
+    line: &mut Items<Spaced>,
+    operand: bool,
+    blank: bool,
+    left: &AExpr,
+) -> Result<(), Memory>
+    ensures { OnOk result (line.new ≡ line.old
+        ++ (spec.opening operand blank ++ spec.adjoint_words true (spec.inside operand blank) (aexpr_tree left.now))) }
+{
+    open(alloc, line, operand, blank)?;
+    aexpr(alloc, line, true, blank && !operand, left)?;
+    Ok(())
+}
+
+/// Adds its right operand.
+#[cycle(adjoint_words)]
+fn right_side(
+    alloc: Global,
+    line: &mut Items<Spaced>,
+    operand: bool,
+    right: &AExpr,
+) -> Result<(), Memory>
+    ensures { OnOk result (line.new ≡ line.old ++ (spec.adjoint_words true false (aexpr_tree right.now) ++ spec.closing operand)) }
+{
+    aexpr(alloc, line, true, false, right)?;
+    close(alloc, line, operand)?;
+    Ok(())
+}
+
+/// Adds the beginning of a `merge` with its first argument.
+#[cycle(adjoint_words)]
+fn merged(alloc: Global, line: &mut Items<Spaced>, blank: bool, first: &AExpr) -> Result<(), Memory>
+    ensures { OnOk result (line.new ≡ line.old ++ spec.merged_words blank (aexpr_tree first.now)) }
+{
+    word(alloc, line, blank, b"merge")?;
+    joined(alloc, line, b"(")?;
+    aexpr(alloc, line, false, false, first)?;
+    Ok(())
+}
+
+/// Adds the second argument of a `merge`.
+#[cycle(adjoint_words)]
+fn otherwise(alloc: Global, line: &mut Items<Spaced>, second: &AExpr) -> Result<(), Memory>
+    ensures { OnOk result (line.new ≡ line.old ++ spec.otherwise_words (aexpr_tree second.now)) }
+{
+    joined(alloc, line, b",")?;
+    aexpr(alloc, line, false, true, second)?;
+    Ok(())
+}
+
+/// Adds its condition and its end.
+fn tested(alloc: Global, line: &mut Items<Spaced>, test: &Cond) -> Result<(), Memory>
+    ensures { OnOk result (line.new ≡ line.old ++ spec.tested_words (cond_tree test.now)) }
+{
+    joined(alloc, line, b",")?;
+    cond(alloc, line, false, true, test)?;
+    joined(alloc, line, b")")?;
+    Ok(())
+}
+
+/// Adds expressions in brackets.
+#[cycle(adjoint_words)]
+fn abracketed(alloc: Global, line: &mut Items<Spaced>, trees: &[AExpr]) -> Result<(), Memory>
+    ensures { OnOk result (line.new ≡ line.old ++ spec.bracketed_adjoints (aexpr_trees trees.now)) }
+{
+    joined(alloc, line, b"(")?;
+    aexprs(alloc, line, trees)?;
+    joined(alloc, line, b")")?;
+    Ok(())
 }
 
 #[cycle(adjoint_words)]

@@ -1,6 +1,6 @@
 //! Expressions and conditions as tokens.
 
-ghost use Rattle.std.specs.Prelude.{◌≡◌, ◌++◌, ◌∷◌, [], OnOk, false};
+ghost use Rattle.std.specs.Prelude.{◌≡◌, ◌++◌, ◌∷◌, [], OnOk, false, true};
 ghost use Rattle.fl_ast.specs.Tree.{expr_tree, place_tree, expr_trees, cond_tree};
 ghost use Rattle.fl_printer.specs.Words as spec;
 
@@ -23,6 +23,35 @@ pub fn literal(
     number(alloc, line, blank, value, suffix_text(kind))
 }
 
+/// Adds the sign of a negation.
+pub fn sign(
+    alloc: Global,
+    line: &mut Items<Spaced>,
+    operand: bool,
+    blank: bool,
+) -> Result<(), Memory>
+    ensures { OnOk result (line.new ≡ line.old ++ spec.sign_words operand blank) }
+{
+    open(alloc, line, operand, blank)?;
+    word(alloc, line, blank && !operand, b"-")?;
+    Ok(())
+}
+
+/// Adds an exponent.
+pub fn raised(
+    alloc: Global,
+    line: &mut Items<Spaced>,
+    operand: bool,
+    exponent: u32,
+) -> Result<(), Memory>
+    ensures { OnOk result (line.new ≡ line.old ++ spec.raised_words operand exponent) }
+{
+    joined(alloc, line, b"**")?;
+    plain_number(alloc, line, false, exponent)?;
+    close(alloc, line, operand)?;
+    Ok(())
+}
+
 /// Adds an expression, as an operand or whole.
 #[cycle(expr_words)]
 pub fn expr(
@@ -38,30 +67,55 @@ pub fn expr(
         Expr::Lit { value, kind } => literal(alloc, line, blank, *value, *kind),
         Expr::Get(found) => place(alloc, line, blank, found),
         Expr::Neg(inner) => {
-            open(alloc, line, operand, blank)?;
-            word(alloc, line, blank && !operand, b"-")?;
-            expr(alloc, line, true, false, inner.get())?;
-            close(alloc, line, operand)
+            sign(alloc, line, operand, blank)?;
+            right_side(alloc, line, operand, inner.get())
         }
         Expr::Bin { op, left, right } => {
-            open(alloc, line, operand, blank)?;
-            expr(alloc, line, true, blank && !operand, left.get())?;
+            left_side(alloc, line, operand, blank, left.get())?;
             joined(alloc, line, operator_text(*op))?;
-            expr(alloc, line, true, false, right.get())?;
-            close(alloc, line, operand)
+            right_side(alloc, line, operand, right.get())
         }
         Expr::Pow { base, exponent } => {
-            open(alloc, line, operand, blank)?;
-            expr(alloc, line, true, blank && !operand, base.get())?;
-            joined(alloc, line, b"**")?;
-            plain_number(alloc, line, false, *exponent)?;
-            close(alloc, line, operand)
+            left_side(alloc, line, operand, blank, base.get())?;
+            raised(alloc, line, operand, *exponent)
         }
         Expr::Call { fun, args } => {
             word(alloc, line, blank, function_text(*fun))?;
             bracketed(alloc, line, args.as_slice())
         }
     }
+}
+
+/// Adds the left operand of an operation.
+#[cycle(expr_words)]
+fn left_side(
+    alloc: Global,
+    line: &mut Items<Spaced>,
+    operand: bool,
+    blank: bool,
+    left: &Expr,
+) -> Result<(), Memory>
+    ensures { OnOk result (line.new ≡ line.old
+        ++ (spec.opening operand blank ++ spec.expression_words true (spec.inside operand blank) (expr_tree left.now))) }
+{
+    open(alloc, line, operand, blank)?;
+    expr(alloc, line, true, blank && !operand, left)?;
+    Ok(())
+}
+
+/// Adds its right operand.
+#[cycle(expr_words)]
+fn right_side(
+    alloc: Global,
+    line: &mut Items<Spaced>,
+    operand: bool,
+    right: &Expr,
+) -> Result<(), Memory>
+    ensures { OnOk result (line.new ≡ line.old ++ (spec.expression_words true false (expr_tree right.now) ++ spec.closing operand)) }
+{
+    expr(alloc, line, true, false, right)?;
+    close(alloc, line, operand)?;
+    Ok(())
 }
 
 /// Adds a place.
