@@ -1,5 +1,5 @@
 -- The walk tells the first fault of all names and numbers in textual order.
-use Rattle.std.proofs.Common.{◌≡◌, ℕ, Bool, true, false, not, ◌&&◌, ◌||◌, if◌then◌else◌, List, [], ◌∷◌, ◌++◌, map, slice_get, Option, Some, None, refl, sym, ap, ◌∙◌}
+use Rattle.std.proofs.Common.{◌≡◌, ℕ, Bool, true, false, ◌||◌, List, [], ◌∷◌, ◌++◌, map, Option, Some, None, refl, sym, ap, ◌∙◌}
 use Rattle.std.proofs.lemmas.List.{map-append, append_assoc}
 use Rattle.fl_ast.specs.declared.kind.BinOp.{BinOp}
 use Rattle.fl_ast.specs.declared.kind.BinOp.TheVariants.{Add, Sub, Mul, Div}
@@ -12,20 +12,17 @@ use Rattle.fl_ast.specs.declared.decl.Factor.{Factor}
 use Rattle.fl_ast.specs.declared.decl.Factor.TheVariants as factor
 use Rattle.fl_ast.specs.declared.decl.Sign.{Sign}
 use Rattle.fl_ast.specs.declared.decl.Decl.{Decl}
-use Rattle.fl_ast.specs.declared.directive.Directive.{Directive}
 use Rattle.fl_ast.specs.declared.stmt.Program.{Program}
-use Rattle.fl_ast.specs.Readable.{listed_names}
 use Rattle.fl_ast.specs.Tree.{Expression, literal, get, minus, binary, power, call, Expressions, no_expressions, expression, Designator, Condition, relation, negation, conjunction, disjunction, Statement, assignment, branch, loop, Statements, no_statements, statement, Arms, no_arms, arm, stmt_trees}
-use Rattle.fl_types.specs.declared.typed.TypeError.{TypeError}
 use Rattle.fl_types.specs.Kinds.{expression_count}
 use Rattle.fl_types.specs.WellTyped.{factor_names, second_names, term_names, rest_names, bound_names, lower_names, dim_names}
 use Rattle.fl_types.specs.Mentions as m
 use Rattle.fl_types.specs.Mentions.{Region, Surroundings, Ending, a_value, an_index, an_assignment, the_unit, an_argument, a_declared, a_bounding, a_listed, a_directive, a_variable, a_target, a_use, a_number, an_exponent, mentions}
-use Rattle.fl_types.specs.Rows.{faults, faults_at, first_fault}
+use Rattle.fl_types.specs.Rows.{first_fault}
 use Rattle.typing.specs.declared.around.Ends.{Ends}
 use Rattle.typing.specs.Firsts as f
 use Rattle.typing.specs.Firsts.{or_later, told}
-use Rattle.typing.specs.Views.{Around, Told}
+use Rattle.typing.specs.Views.{Told}
 use Rattle.typing.proofs.Heads.{error, error_none, head, head_is, head_nil, both, first_then, alone}
 use Rattle.typing.proofs.Said.{seen, flags, unit_said, argument_said, declared_said, bounding_said, listed_said, directive_said, variable_said, target_said, use_said, number_said, exponent_said}
 

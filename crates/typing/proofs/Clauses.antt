@@ -1,16 +1,15 @@
 -- Where no rule is broken, the names in clauses are what they have to be.
-use Rattle.std.proofs.Common.{◌≡◌, ℕ, Bool, true, false, not, ◌&&◌, ◌||◌, bytes_eq, List, [], ◌∷◌, ◌++◌, map, slice_get, Option, Some, None, refl, sym, ap, ◌∙◌}
+use Rattle.std.proofs.Common.{◌≡◌, ℕ, Bool, true, false, not, ◌&&◌, ◌||◌, bytes_eq, List, [], ◌∷◌, ◌++◌, map, slice_get, Some, None, refl, sym, ap, ◌∙◌}
 use Rattle.std.proofs.lemmas.Bool.{and_parts, and_from, or_parts, or_left, or_right}
 use Rattle.std.proofs.lemmas.List.{map-append}
 use Rattle.std.proofs.lemmas.List.Folds.{list_all-append}
 use Rattle.std.proofs.lemmas.Slice.Eq.{bytes_eq-Decides}
-use Rattle.std.specs.List.{list_any, list_all}
-use Rattle.fl_ast.specs.declared.directive.Directive.{Directive}
+use Rattle.std.specs.List.{list_all}
 use Rattle.fl_ast.specs.declared.stmt.Program.{Program}
 use Rattle.fl_ast.specs.Readable.{listed_names}
 use Rattle.fl_ast.specs.Tree.{Statement, assignment, branch, loop, Statements, no_statements, statement, Arms, no_arms, arm}
-use Rattle.fl_types.specs.Sharing.{has_name, varies_in, ParallelLoop, loops_of, loops_of_all, loops_of_arms}
-use Rattle.fl_types.specs.Supported.{is_declared, are_declared}
+use Rattle.fl_types.specs.Sharing.{has_name, ParallelLoop, loops_of, loops_of_all, loops_of_arms}
+use Rattle.fl_types.specs.Supported.{is_declared}
 use Rattle.fl_types.specs.WellTyped.{declaration_of, is_scalar_declared, is_index_declared, is_local_scalar, is_local_index_scalar, is_ring_scalar, has_fair_clauses}
 use Rattle.fl_types.specs.Mentions as m
 use Rattle.fl_types.specs.Mentions.{Region, Surroundings, a_listed, a_directive, a_variable}
@@ -51,8 +50,12 @@ listed_clean p l x h =
     let b = holds (is_private_in l x && not (is_local_scalar p x)) _ _ a.1 in
     let c = holds (has_name x l.directive.pluses && not (is_ring_scalar p x)) _ _ b.1 in
     let d = holds (((is_private_in l x || has_name x l.directive.firsts) && not (is_scalar_declared (declaration_of p.decls x))) || (varies_in_loop l x && not (has_name x l.directive.privates))) _ _ c.1 in
-    record { known = no_not _ a.0; local = b.0; sum = c.0;
-      copied = (or_parts ((is_private_in l x || has_name x l.directive.firsts) && not (is_scalar_declared (declaration_of p.decls x))) _ d.0).0 }
+    record {
+      known = no_not _ a.0;
+      local = b.0;
+      sum = c.0;
+      copied = (or_parts ((is_private_in l x || has_name x l.directive.firsts) && not (is_scalar_declared (declaration_of p.decls x))) _ d.0).0;
+    }
 
 -- a test that each name of a list passes, by what is known of it
 all_listed : (p : Program) (l : Region) (test : List ℕ → Bool) (xs ys : List (List ℕ)) → ((x : List ℕ) → has_name x ys ≡ true → ListedFacts p l x → test x ≡ true)

@@ -1,8 +1,7 @@
 -- Names and numbers at which no rule is broken.
-use Rattle.std.proofs.Common.{◌≡◌, ℕ, Bool, true, false, not, ◌&&◌, ◌||◌, if◌then◌else◌, nat_lt, List, [], ◌∷◌, ◌++◌, length, slice_get, Option, Some, None, refl, sym, ap, ◌∙◌}
+use Rattle.std.proofs.Common.{◌≡◌, ℕ, Bool, true, false, not, ◌||◌, nat_lt, List, ◌∷◌, ◌++◌, slice_get, Option, Some, None, refl, sym, ◌∙◌}
 use Rattle.std.proofs.lemmas.Bool.{or_parts}
 use Rattle.std.specs.List.{list_any}
-use Rattle.fl_ast.specs.declared.kind.Kind.{Kind}
 use Rattle.fl_ast.specs.declared.kind.Kind.TheVariants.{Index, Ring}
 use Rattle.fl_ast.specs.declared.stmt.Program.{Program}
 use Rattle.fl_types.specs.declared.typed.TypeError.{TypeError}
@@ -13,7 +12,7 @@ use Rattle.fl_types.specs.WellTyped.{is_local_index_scalar, is_read_only_argumen
 use Rattle.fl_types.specs.Mentions.{Surroundings, Ending, Mention, a_variable, a_target, a_use, a_number, an_exponent}
 use Rattle.fl_types.specs.Rows.{when, faults_at, is_varying, kinds_differ, divides_data, is_data_as_index}
 use Rattle.typing.specs.Firsts.{or_later}
-use Rattle.typing.proofs.Heads.{head, head_nil, head_cons, head_append}
+use Rattle.typing.proofs.Heads.{head, head_cons, head_append}
 
 -- no rule is broken at any of them
 abbrev pub Clean : Program → List Mention → Type 0

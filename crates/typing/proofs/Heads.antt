@@ -1,5 +1,5 @@
 -- The first fault of names and numbers, one after the other.
-use Rattle.std.proofs.Common.{◌≡◌, ℕ, Bool, true, false, if◌then◌else◌, List, [], ◌∷◌, ◌++◌, flat_map, slice_get, map, option_map, Option, Some, None, refl, sym, ap, ◌∙◌}
+use Rattle.std.proofs.Common.{◌≡◌, ℕ, Bool, true, false, if◌then◌else◌, List, [], ◌∷◌, ◌++◌, flat_map, slice_get, option_map, Option, Some, None, refl, sym, ap, ◌∙◌}
 use Rattle.fl_ast.specs.declared.stmt.Program.{Program}
 use Rattle.fl_types.specs.declared.typed.TypeError.{TypeError}
 use Rattle.fl_types.specs.Mentions.{Mention}

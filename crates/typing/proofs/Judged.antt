@@ -1,5 +1,5 @@
 -- The judgement of a program by what the walk tells.
-use Rattle.std.proofs.Common.{◌≡◌, Option, Some, None, Result, Ok, Err, refl, sym, ap, ◌∙◌}
+use Rattle.std.proofs.Common.{◌≡◌, Option, Some, None, Ok, Err, sym, ap, ◌∙◌}
 use Rattle.fl_ast.specs.declared.stmt.Program.{Program}
 use Rattle.fl_types.specs.Rows.{first_fault, refused_by, judged}
 use Rattle.typing.specs.Errors.{error_of}

@@ -1,9 +1,8 @@
 -- Where no rule is broken, expressions and statements are well kinded.
-use Rattle.std.proofs.Common.{◌≡◌, ℕ, ◌+◌, Bool, true, false, not, ◌&&◌, ◌||◌, ◌==◌, nat_lt, nat_le, List, [], ◌∷◌, ◌++◌, Option, Some, None, refl, sym, ap, ◌∙◌, arith}
+use Rattle.std.proofs.Common.{◌≡◌, ℕ, ◌+◌, Bool, true, false, not, ◌&&◌, ◌||◌, ◌==◌, nat_lt, nat_le, List, [], ◌∷◌, Option, Some, None, refl, arith}
 use Rattle.std.proofs.lemmas.Bool.{and_parts, and_from, or_parts}
 use Rattle.std.proofs.lemmas.Bool.Decides.{nat_tests}
-use Rattle.std.specs.List.{list_any, list_all}
-use Rattle.fl_ast.specs.declared.kind.Kind.{Kind}
+use Rattle.std.specs.List.{list_all}
 use Rattle.fl_ast.specs.declared.kind.Kind.TheVariants.{Index, Ring}
 use Rattle.fl_ast.specs.declared.kind.BinOp.{BinOp}
 use Rattle.fl_ast.specs.declared.kind.BinOp.TheVariants.{Add, Sub, Mul, Div}
@@ -11,12 +10,11 @@ use Rattle.fl_ast.specs.declared.kind.Fun.{Fun}
 use Rattle.fl_ast.specs.declared.kind.Fun.TheVariants.{Max, Min, Abs, Mod}
 use Rattle.fl_ast.specs.declared.stmt.Program.{Program}
 use Rattle.fl_ast.specs.Readable.{is_readable, are_readable, is_readable_condition, is_readable_step, number_of, arity}
-use Rattle.fl_ast.specs.Same.{same_kind}
 use Rattle.fl_ast.specs.Tree.{Expression, literal, get, minus, binary, power, call, Expressions, no_expressions, expression, Condition, relation, negation, conjunction, disjunction}
-use Rattle.fl_types.specs.Kinds.{Names, kind_of_expression, kinds_of_expressions, is_index_kind, literal_fits, takes_operands, takes_arguments, expression_count, is_well_kinded, are_well_kinded, is_well_kinded_condition, is_index_expression, is_index_step, has_declared_rank, declared_names}
+use Rattle.fl_types.specs.Kinds.{Names, kind_of_expression, kinds_of_expressions, is_index_kind, takes_operands, takes_arguments, expression_count, is_well_kinded, are_well_kinded, is_well_kinded_condition, is_index_expression, is_index_step, declared_names}
 use Rattle.fl_types.specs.Mentions as m
 use Rattle.fl_types.specs.Mentions.{Surroundings, Ending, a_value, an_index, a_use, a_number, an_exponent}
-use Rattle.fl_types.specs.Rows.{kind_in, differ, any_ring, kinds_differ, divides_data, is_data_as_index}
+use Rattle.fl_types.specs.Rows.{kind_in, kinds_differ, divides_data}
 use Rattle.typing.proofs.Faultless.{Clean, apart, at_first, EndsWell, ends_behind, use_clean, exponent_clean, ring_clean, index_clean}
 
 no_not : (b : Bool) → not b ≡ false → b ≡ true

@@ -1,5 +1,5 @@
 -- At each name or number the first broken rule is told.
-use Rattle.std.proofs.Common.{◌≡◌, ℕ, Bool, true, false, not, ◌&&◌, ◌||◌, if◌then◌else◌, nat_lt, bytes_eq, List, [], ◌∷◌, ◌++◌, length, slice_get, Option, Some, None, refl, sym, ap, ◌∙◌}
+use Rattle.std.proofs.Common.{◌≡◌, ℕ, Bool, true, false, not, ◌&&◌, ◌||◌, if◌then◌else◌, nat_lt, bytes_eq, List, [], ◌++◌, length, slice_get, Option, Some, None, refl, ap}
 use Rattle.std.specs.List.{list_any}
 use Rattle.fl_ast.specs.declared.kind.Kind.{Kind}
 use Rattle.fl_ast.specs.declared.kind.Kind.TheVariants.{Index, Ring}
@@ -18,7 +18,7 @@ use Rattle.typing.specs.declared.rule.Rule.{Rule}
 use Rattle.typing.specs.declared.rule.Rule.TheVariants.{Undeclared, Doubled, ReservedSuffix, LocalArray, Rank, LiteralRange, KindClash, DataDivision, DataToIndex, IntentIn, SelfSubscript, LoopVarUse, PrivateUse, ReductionUse, AtomicForm, NotShareable, Unlisted, MixedKinds, CollapseForm}
 use Rattle.typing.specs.declared.around.Ends.{Ends}
 use Rattle.typing.specs.Errors.{error_by}
-use Rattle.typing.specs.Firsts.{or_later, told, own_of, is_out, is_other_use, is_copied_array, is_wrong_variable, unit_rule, argument_rule, declared_rule, bounding_rule, listed_rule, directive_rule, variable_rule, target_rule, use_rule, standing_rule, number_rule, exponent_rule}
+use Rattle.typing.specs.Firsts.{told, own_of, is_out, is_other_use, is_copied_array, is_wrong_variable, unit_rule, argument_rule, declared_rule, bounding_rule, listed_rule, directive_rule, variable_rule, target_rule, use_rule, number_rule, exponent_rule}
 use Rattle.typing.specs.Views.{Around}
 use Rattle.typing.proofs.Heads.{error, none_left, rule_first, rule_then, rule_last}
 

@@ -1,6 +1,6 @@
 -- Where no rule is broken, statements are well kinded, loops have local index scalars as variables, and what is assigned may be.
-use Rattle.std.proofs.Common.{◌≡◌, ℕ, ◌+◌, Bool, true, false, not, ◌&&◌, ◌||◌, if◌then◌else◌, nat_eq, bytes_eq, List, [], ◌∷◌, ◌++◌, length, map, slice_get, Option, Some, None, refl, sym, ap, ◌∙◌, arith}
-use Rattle.std.proofs.lemmas.Bool.{and_parts, and_from, or_parts, or_from, or_left, or_right, not_from_false}
+use Rattle.std.proofs.Common.{◌≡◌, ℕ, Bool, true, false, not, ◌&&◌, ◌||◌, if◌then◌else◌, nat_eq, bytes_eq, List, [], ◌∷◌, ◌++◌, length, map, Option, Some, None, refl, sym, ap, ◌∙◌}
+use Rattle.std.proofs.lemmas.Bool.{and_parts, and_from, or_parts, or_from, or_left, or_right}
 use Rattle.std.proofs.lemmas.List.{map-append}
 use Rattle.std.proofs.lemmas.Slice.Eq.{bytes_eq-Decides}
 use Rattle.std.specs.List.{list_any, list_all}
@@ -12,14 +12,13 @@ use Rattle.fl_ast.specs.declared.directive.Directive.{Directive}
 use Rattle.fl_ast.specs.declared.stmt.Program.{Program}
 use Rattle.fl_ast.specs.Readable.{is_readable, are_readable, is_readable_step, is_readable_condition, is_readable_directive, is_variable, is_parallel, has_parallel_in, has_arm, is_readable_statement, are_readable_statements, are_readable_arms, listed_names}
 use Rattle.fl_ast.specs.Tree.{Expression, Expressions, no_expressions, expression, Designator, Statement, assignment, branch, loop, Statements, no_statements, statement, Arms, no_arms, arm}
-use Rattle.fl_types.specs.Increment.{target_of}
-use Rattle.fl_types.specs.Kinds.{Names, kind_of_name, kind_of_expression, is_index_kind, expression_count, has_declared_rank, takes_value, is_well_kinded, are_well_kinded, is_index_scalar, has_scalar_privates, is_well_kinded_assignment, is_well_kinded_head, is_well_kinded_statement, are_well_kinded_statements, are_well_kinded_arms}
+use Rattle.fl_types.specs.Kinds.{kind_of_name, is_index_kind, expression_count, has_declared_rank, takes_value, is_index_scalar, has_scalar_privates, is_well_kinded_assignment, is_well_kinded_statement, are_well_kinded_statements, are_well_kinded_arms}
 use Rattle.fl_types.specs.Sharing.{has_name, is_ring_kind, is_ring_name, varies, varies_in, varies_in_arms, assigns, assigns_in, assigns_in_arms}
 use Rattle.fl_types.specs.Supported.{is_declared, is_scalar}
 use Rattle.fl_types.specs.WellTyped.{are_declared_once, declaration_of, is_scalar_declared, is_index_declared, is_local_scalar, is_local_index_scalar, is_read_only_argument}
 use Rattle.fl_types.specs.Mentions as m
 use Rattle.fl_types.specs.Mentions.{Region, Surroundings, Ending, an_assignment, a_target, a_variable, a_listed, a_directive}
-use Rattle.fl_types.specs.Rows.{faults_at, kind_in, is_varying, varies_in_loop, is_private_in}
+use Rattle.fl_types.specs.Rows.{kind_in, is_varying, varies_in_loop, is_private_in}
 use Rattle.typing.proofs.Heads.{head}
 use Rattle.typing.proofs.Faultless.{Clean, apart, at_first, holds, EndsWell, target_clean, variable_clean}
 use Rattle.typing.proofs.Kinded.{names_of, kinded, kinded_subscripts, kinded_condition, kinded_bound, kinded_step}

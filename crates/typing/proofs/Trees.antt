@@ -1,9 +1,8 @@
 -- Trees of places.
-use Rattle.std.proofs.Common.{◌≡◌, ◌+◌, List, [], ◌∷◌, length, rules, refl, arith}
+use Rattle.std.proofs.Common.{◌≡◌, List, [], ◌∷◌, length, rules, refl, arith}
 use Rattle.fl_ast.specs.declared.expr.Expr.{Expr, the_lemmas as expr_lemmas}
 use Rattle.fl_ast.specs.declared.expr.Place.{Place}
-use Rattle.fl_ast.specs.Tree.{expr_trees, place_tree, get}
-use Rattle.fl_types.specs.Increment.{target_of}
+use Rattle.fl_ast.specs.Tree.{expr_trees, place_tree}
 use Rattle.fl_types.specs.Kinds.{expression_count}
 
 pub place_name : (p : Place) → (place_tree p).name ≡ p.name

@@ -1,6 +1,6 @@
 -- A program without a fault is typed.
-use Rattle.std.proofs.Common.{◌≡◌, ℕ, Bool, true, false, not, ◌&&◌, ◌||◌, nat_lt, nat_le, bytes_eq, List, [], ◌∷◌, ◌++◌, length, map, slice_get, Option, Some, None, refl, sym, ap, ◌∙◌, arith}
-use Rattle.std.proofs.lemmas.Bool.{and_parts, and_from, or_parts, or_from, not_from_false}
+use Rattle.std.proofs.Common.{◌≡◌, ℕ, Bool, true, false, not, ◌&&◌, ◌||◌, nat_lt, nat_le, bytes_eq, List, [], ◌∷◌, ◌++◌, length, map, slice_get, None, refl, sym, ◌∙◌, arith}
+use Rattle.std.proofs.lemmas.Bool.{and_from, or_parts, or_from, not_from_false}
 use Rattle.std.proofs.lemmas.Bool.Decides.{nat_tests}
 use Rattle.std.proofs.lemmas.List.Folds.{list_any-append}
 use Rattle.std.proofs.lemmas.Slice.Eq.{bytes_eq-Decides}
@@ -14,8 +14,8 @@ use Rattle.fl_types.specs.Supported.{all_apart, are_declared, declares, is_decla
 use Rattle.fl_types.specs.WellTyped.{are_declared_once, dim_names, is_argument_if_array, is_index_scalar_argument, is_local_index_scalar, is_read_only_argument, bytes_of_data, has_bytes, has_fair_shape, is_fair_if_varying, is_kept_if_read_only, IsTyped}
 use Rattle.fl_types.specs.Mentions as m
 use Rattle.fl_types.specs.Mentions.{Mention, the_unit, an_argument, a_declared, a_bounding, mentions}
-use Rattle.fl_types.specs.Rows.{faults_at, is_varying, first_fault}
-use Rattle.typing.proofs.Heads.{head, head_is}
+use Rattle.fl_types.specs.Rows.{faults_at, first_fault}
+use Rattle.typing.proofs.Heads.{head_is}
 use Rattle.typing.proofs.Faultless.{Clean, apart, at_first, holds}
 use Rattle.typing.proofs.Clauses.{fair_loops_all}
 use Rattle.typing.proofs.Sound.{local_if_all, assignable_if_all, kinded_statements}

@@ -1,6 +1,5 @@
 -- What is said of a broken rule.
-use Rattle.std.specs.Prelude.{ℕ, List, Option, Some, None, Result, Ok, Err}
-use Rattle.fl_ast.specs.declared.stmt.Program.{Program}
+use Rattle.std.specs.Prelude.{ℕ, List}
 use Rattle.fl_types.specs.declared.typed.TypeError.{TypeError}
 use Rattle.fl_types.specs.declared.typed.TypeError.TheVariants as fault
 use Rattle.typing.specs.declared.rule.Rule.{Rule}

@@ -1,5 +1,5 @@
 -- The first fault of each part of a program, found from left to right.
-use Rattle.std.specs.Prelude.{ℕ, ◌+◌, Bool, true, false, not, ◌&&◌, ◌||◌, if◌then◌else◌, nat_eq, nat_lt, bytes_eq, List, [], ◌∷◌, ◌++◌, length, Option, Some, None}
+use Rattle.std.specs.Prelude.{ℕ, Bool, false, not, ◌&&◌, ◌||◌, if◌then◌else◌, nat_lt, List, [], ◌∷◌, ◌++◌, length, Option, Some, None}
 use Rattle.fl_ast.specs.declared.kind.Kind.{Kind}
 use Rattle.fl_ast.specs.declared.kind.Kind.TheVariants.{Index, Ring}
 use Rattle.fl_ast.specs.declared.kind.BinOp.{BinOp}
@@ -13,16 +13,13 @@ use Rattle.fl_ast.specs.declared.decl.Factor.{Factor}
 use Rattle.fl_ast.specs.declared.decl.Factor.TheVariants as factor
 use Rattle.fl_ast.specs.declared.decl.Sign.{Sign}
 use Rattle.fl_ast.specs.declared.decl.Decl.{Decl}
-use Rattle.fl_ast.specs.declared.directive.Directive.{Directive}
 use Rattle.fl_ast.specs.declared.stmt.Program.{Program}
-use Rattle.fl_ast.specs.Readable.{listed_names}
 use Rattle.fl_ast.specs.Tree.{Expression, literal, get, minus, binary, power, call, Expressions, no_expressions, expression, Designator, Condition, relation, negation, conjunction, disjunction, Statement, assignment, branch, loop, Statements, no_statements, statement, Arms, no_arms, arm, stmt_trees}
 use Rattle.fl_types.specs.Increment.{increment_terms}
 use Rattle.fl_types.specs.Kinds.{kind_of_name, kinds_of_expressions, is_index_kind, has_declared_rank, declared_names, expression_count}
-use Rattle.fl_types.specs.Nests.{is_nest}
 use Rattle.fl_types.specs.Sharing.{has_name, is_ring_name}
 use Rattle.fl_types.specs.Supported.{is_declared, is_reserved}
-use Rattle.fl_types.specs.WellTyped.{declaration_of, dim_names, is_argument_if_array, is_scalar_declared, is_index_scalar_argument, is_local_scalar, is_local_index_scalar, is_ring_scalar, is_read_only_argument, bytes_of_data, has_bytes}
+use Rattle.fl_types.specs.WellTyped.{declaration_of, is_argument_if_array, is_scalar_declared, is_index_scalar_argument, is_local_scalar, is_local_index_scalar, is_ring_scalar, is_read_only_argument, bytes_of_data, has_bytes}
 use Rattle.fl_types.specs.Mentions.{Region, made_parallel, is_nested, or_around}
 use Rattle.fl_types.specs.Rows.{is_varying, varies_in_loop, is_private_in, is_private_name, is_own_in, is_first_in, is_plus_in, is_name_of, is_no_terms, is_unlisted_in, kind_in, differ, any_ring, is_no_update, is_serial, is_bad_nest}
 use Rattle.typing.specs.declared.rule.Rule.{Rule}

@@ -1,5 +1,5 @@
 -- Chains that an atomic update can't do at once, told from the value alone.
-use Rattle.std.specs.Prelude.{Bool, true, false, not, ◌&&◌, if◌then◌else◌}
+use Rattle.std.specs.Prelude.{Bool, true, false, not, if◌then◌else◌}
 use Rattle.fl_ast.specs.declared.kind.BinOp.TheVariants.{Add, Sub}
 use Rattle.fl_ast.specs.Same.{same_expression}
 use Rattle.fl_ast.specs.Tree.{Expression, binary}

@@ -10,10 +10,7 @@ use fl_base::Name;
 #[derive(Clone, Copy)]
 pub enum Vars<'a> {
     Outside,
-    Inside {
-        var: &'a Name,
-        outer: &'a Vars<'a>,
-    },
+    Inside { var: &'a Name, outer: &'a Vars<'a> },
 }
 
 impl<'a> Vars<'a> {

@@ -97,12 +97,7 @@ pub(crate) fn is_private_in(region: &Region<'_>, name: &Name) -> bool
     has_name(name, region.directive.privates.as_slice()) && !varies_in_loop(region, name)
 }
 
-fn is_private_by(
-    directive: &Option<Directive>,
-    var: &Name,
-    body: &[Stmt],
-    name: &Name,
-) -> bool
+fn is_private_by(directive: &Option<Directive>, var: &Name, body: &[Stmt], name: &Name) -> bool
     ensures { result ≡ rows.is_private_by directive.now var.now (stmt_trees body.now) name.now }
 {
     match directive {
@@ -267,12 +262,7 @@ fn step_changing(step: &Option<Expr>, region: &Region<'_>) -> bool
 }
 
 /// Whether the bounds or the step of a loop go by what the loop around it changes.
-fn head_changing(
-    first: &Expr,
-    last: &Expr,
-    step: &Option<Expr>,
-    region: &Region<'_>,
-) -> bool
+fn head_changing(first: &Expr, last: &Expr, step: &Option<Expr>, region: &Region<'_>) -> bool
     ensures { result ≡ rows.some_name (rows.changes_in (region_of region.now)) (expr_tree first.now)
         || (rows.some_name (rows.changes_in (region_of region.now)) (expr_tree last.now)
         || rows.some_step_name (rows.changes_in (region_of region.now)) (step_tree step.now)) }

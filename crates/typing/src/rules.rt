@@ -285,7 +285,12 @@ fn is_outside(program: &Program, around: &Around<'_, '_>, name: &Name) -> bool
     is_varying(program, name) && !around.vars.has(name)
 }
 
-fn standing_rule(program: &Program, around: &Around<'_, '_>, ends: Ends, name: &Name) -> Option<Rule>
+fn standing_rule(
+    program: &Program,
+    around: &Around<'_, '_>,
+    ends: Ends,
+    name: &Name,
+) -> Option<Rule>
     ensures { result ≡ firsts.standing_rule program.now (around_of around.now) ends name.now }
 {
     if is_name_of(&around.subscript_of, name) {

@@ -138,11 +138,7 @@ fn in_arguments<'t>(
     None
 }
 
-fn in_condition<'t>(
-    cond: &'t Cond,
-    program: &Program,
-    around: &Around<'_, 't>,
-) -> Option<Fault<'t>>
+fn in_condition<'t>(cond: &'t Cond, program: &Program, around: &Around<'_, 't>) -> Option<Fault<'t>>
     ensures { optional_told result ≡ firsts.first_in_condition program.now (around_of around.now) (cond_tree cond.now) }
 {
     match cond {
@@ -172,11 +168,7 @@ fn in_condition<'t>(
 }
 
 #[tactic(auto, using(crate::proofs::Trees::count_length))]
-fn in_target<'t>(
-    target: &'t Place,
-    program: &Program,
-    around: &Around<'_, 't>,
-) -> Option<Fault<'t>>
+fn in_target<'t>(target: &'t Place, program: &Program, around: &Around<'_, 't>) -> Option<Fault<'t>>
     ensures { optional_told result ≡ firsts.first_in_target program.now (around_of around.now) target.now.name (expr_trees target.now.subscripts) }
 {
     let subscripts = target.subscripts.as_slice();
@@ -246,7 +238,11 @@ fn in_head<'t>(
 ) -> Option<Fault<'t>>
     ensures { optional_told result ≡ firsts.first_in_head program.now (around_of around.now) var.now (expr_tree first.now) (expr_tree last.now) (step_tree step.now) }
 {
-    let found = told(around.line, var.bytes(), variable_rule(program, around, var));
+    let found = told(
+        around.line,
+        var.bytes(),
+        variable_rule(program, around, var),
+    );
     if found.is_some() {
         return found;
     }
@@ -261,11 +257,7 @@ fn in_head<'t>(
     in_step(step, program, around)
 }
 
-fn in_list<'t>(
-    names: &'t [Name],
-    program: &Program,
-    region: &Region<'_>,
-) -> Option<Fault<'t>>
+fn in_list<'t>(names: &'t [Name], program: &Program, region: &Region<'_>) -> Option<Fault<'t>>
     ensures { optional_told result ≡ firsts.first_in_list program.now (region_of region.now) names.now }
 {
     for name in names {
@@ -314,11 +306,7 @@ fn in_directive<'t>(parallel: &Option<Region<'t>>, program: &Program) -> Option<
 }
 
 #[cycle(statements)]
-fn in_statement<'t>(
-    stmt: &'t Stmt,
-    program: &Program,
-    around: &Around<'_, 't>,
-) -> Option<Fault<'t>>
+fn in_statement<'t>(stmt: &'t Stmt, program: &Program, around: &Around<'_, 't>) -> Option<Fault<'t>>
     ensures { optional_told result ≡ firsts.first_in_statement program.now (around_of around.now) (stmt_tree stmt.now) }
 {
     match stmt {

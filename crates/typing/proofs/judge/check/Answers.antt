@@ -1,5 +1,4 @@
 use Rattle.std.proofs.Common.{◌≡◌, rules, Some, None, Err, ap, ◌∙◌, sym}
-use Rattle.typing.specs.Errors.{error_of}
 use Rattle.typing.specs.Firsts.{first_in_program}
 use Rattle.typing.specs.Views.{Told}
 use Rattle.typing.proofs.Judged.{judged_none, judged_some, faultless}

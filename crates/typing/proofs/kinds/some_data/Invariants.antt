@@ -1,5 +1,5 @@
 use Rattle.std.proofs.Common.{◌≡◌, drop}
-use Rattle.fl_ast.specs.Tree.{expr_tree, expr_trees, stmt_trees, arm_trees}
+use Rattle.fl_ast.specs.Tree.{expr_trees}
 use Rattle.fl_types.specs.Kinds.{kinds_of_expressions, declared_names}
 use Rattle.fl_types.specs.Rows.{any_ring}
 use Rattle.typing.proofs.kinds.some_data.Given as goal

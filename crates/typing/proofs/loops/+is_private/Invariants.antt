@@ -1,5 +1,5 @@
 use Rattle.std.proofs.Common.{◌≡◌, drop}
-use Rattle.fl_ast.specs.Tree.{expr_tree, expr_trees, stmt_trees, arm_trees}
+use Rattle.fl_ast.specs.Tree.{stmt_trees, arm_trees}
 use Rattle.fl_types.specs.Rows.{is_private_within_all, is_private_within_arms}
 use Rattle.typing.proofs.loops.+is_private.Given as goal
 
@@ -10,4 +10,3 @@ invariant-is_private_within_all-loop-stmt l = is_private_within_all l.name (stmt
 -- those that are left answer as all do
 abbrev pub invariant-is_private_within_arms-loop-arm : goal.invariant-is_private_within_arms-loop-arm
 invariant-is_private_within_arms-loop-arm l = is_private_within_arms l.name (arm_trees (drop l.arm-index l.arms)) ≡ is_private_within_arms l.name (arm_trees l.arms)
-

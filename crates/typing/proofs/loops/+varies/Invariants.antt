@@ -1,5 +1,5 @@
 use Rattle.std.proofs.Common.{◌≡◌, drop}
-use Rattle.fl_ast.specs.Tree.{expr_tree, expr_trees, stmt_trees, arm_trees}
+use Rattle.fl_ast.specs.Tree.{stmt_trees, arm_trees}
 use Rattle.fl_types.specs.Sharing.{varies_in, varies_in_arms}
 use Rattle.typing.proofs.loops.+varies.Given as goal
 
@@ -10,4 +10,3 @@ invariant-varies_in-loop-stmt l = varies_in l.name (stmt_trees (drop l.stmt-inde
 -- those that are left answer as all do
 abbrev pub invariant-varies_in_arms-loop-arm : goal.invariant-varies_in_arms-loop-arm
 invariant-varies_in_arms-loop-arm l = varies_in_arms l.name (arm_trees (drop l.arm-index l.arms)) ≡ varies_in_arms l.name (arm_trees l.arms)
-

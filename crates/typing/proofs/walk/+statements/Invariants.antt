@@ -1,4 +1,4 @@
-use Rattle.std.proofs.Common.{◌≡◌, ◌+◌, drop}
+use Rattle.std.proofs.Common.{◌≡◌, drop}
 use Rattle.fl_ast.specs.Tree.{stmt_trees, arm_trees}
 use Rattle.typing.specs.Firsts.{first_in_statements, first_in_arms}
 use Rattle.typing.specs.Views.{around_of}

@@ -1,4 +1,4 @@
-use Rattle.std.proofs.Common.{◌≡◌, ◌+◌, drop}
+use Rattle.std.proofs.Common.{◌≡◌, drop}
 use Rattle.fl_ast.specs.Tree.{expr_trees}
 use Rattle.typing.specs.Firsts.{first_in_subscripts, first_in_arguments}
 use Rattle.typing.specs.Views.{around_of}
@@ -13,4 +13,3 @@ invariant-in_subscripts-loop-i l =
 abbrev pub invariant-in_arguments-loop-i : goal.invariant-in_arguments-loop-i
 invariant-in_arguments-loop-i l =
     first_in_arguments l.program (around_of l.around) l.ends (expr_trees (drop l.i l.exprs)) ≡ first_in_arguments l.program (around_of l.around) l.ends (expr_trees l.exprs)
-

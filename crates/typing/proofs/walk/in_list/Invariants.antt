@@ -1,4 +1,4 @@
-use Rattle.std.proofs.Common.{◌≡◌, ◌+◌, drop}
+use Rattle.std.proofs.Common.{◌≡◌, drop}
 use Rattle.typing.specs.Firsts.{first_in_list}
 use Rattle.typing.specs.Views.{region_of}
 use Rattle.typing.proofs.walk.in_list.Given as goal

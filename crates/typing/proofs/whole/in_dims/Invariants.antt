@@ -1,4 +1,4 @@
-use Rattle.std.proofs.Common.{◌≡◌, ◌+◌, drop}
+use Rattle.std.proofs.Common.{◌≡◌, drop}
 use Rattle.typing.specs.Firsts.{first_in_dims}
 use Rattle.typing.proofs.whole.in_dims.Given as goal
 
