@@ -1,5 +1,5 @@
 -- What is in the grammar is readable.
-use Rattle.std.proofs.Common.{◌≡◌, ℕ, ◌+◌, ◌<◌, ◌≤◌, ◌^◌, true, false, nat_le, List, [], ◌∷◌, ◌++◌, length, map, length-append, refl, sym, ap, subst, ◌∙◌, inl, inr, arith}
+use Rattle.std.proofs.Common.{◌≡◌, ℕ, ◌+◌, ◌<◌, ◌≤◌, ◌^◌, true, false, nat_le, List, [], ◌∷◌, ◌++◌, length, map, length-append, refl, sym, ap, subst, ◌∙◌, inl, inr, arith, Some}
 use Rattle.std.specs.List.{list_all}
 use Rattle.std.proofs.lemmas.Bool.Decides.{nat_tests}
 use Rattle.std.proofs.lemmas.List.Folds.{list_all-append}
@@ -7,7 +7,6 @@ use Rattle.fl_base.specs.Spelling.{is_name}
 use Rattle.tokens.specs.declared.Token.{Token}
 use Rattle.tokens.specs.Lexeme.{lexeme}
 use Rattle.tokens.specs.Spelled.{AreSpelled}
-use Rattle.fl_ast.specs.Sizes.{bytes_of}
 use Rattle.fl_ast.specs.declared.kind.Kind.{Kind}
 use Rattle.fl_ast.specs.declared.kind.Kind.TheVariants.{Index, Ring}
 use Rattle.fl_ast.specs.declared.kind.Intent.{Intent}
@@ -28,6 +27,10 @@ use Rattle.fl_parser.specs.Trees.{declared, head_of, program}
 use Rattle.fl_parser.specs.UnitGrammar as g2
 use Rattle.fl_parser.specs.DimGrammar as g3
 use Rattle.fl_expressions.proofs.ReadableExprs.{and_true}
+use Rattle.parsing.specs.declared.symbol.Symbol.{Symbol}
+use Rattle.parsing.specs.Symbol.{symbol_of}
+use Rattle.parsing.specs.Terminal.{spelled_number}
+use Rattle.fl_parser.specs.Terminals.{kind_by, one_text, two_text}
 use Rattle.fl_statements.specs.declared.block.Block.{Block}
 use Rattle.fl_statements.proofs.Adding.{counting}
 use Rattle.fl_statements.proofs.ReadableStmts.{Well, longer, stmts_well}
@@ -40,37 +43,59 @@ record Declares_well (ds : List Decl) : Type 0 where
   few : length ds ≤ 512
   readable : list_all is_readable_decl ds ≡ true
 
-size_of : (k : Kind) → is_size_of k (bytes_of k) ≡ true
-size_of Index = refl
-size_of Ring = refl
+-- the bytes of a kind
+abbrev Sized : Kind × ℕ → ℕ → Type 0
+Sized k n = is_size_of k.0 k.1 ≡ true
 
-declared_well : (ds : List Decl) (line : ℕ) (k : Kind) (i : Intent) (x : Word) (dims : List Dim) → nat_le (length ds + 1) 512 ≡ true → is_variable x.name ≡ true → list_all is_readable_dim dims ≡ true → Declares_well ds →
+value_sized : (m : ℕ) → Holds m g2.kind_value Sized
+unfolding g2.kind_value g2.one_byte g2.two_bytes
+value_sized m x us sp (inl n) = holds_bind m (one (spelled_number one_text)) _ (λ _ a. m ≤ a) Sized (holds_any m _) (λ _ a _. holds_gives a (Ring, 1) Sized refl) x us sp n
+value_sized m x us sp (inr (inl n)) = holds_bind m (one (spelled_number two_text)) _ (λ _ a. m ≤ a) Sized (holds_any m _) (λ _ a _. holds_gives a (Ring, 2) Sized refl) x us sp n
+value_sized m x us sp (inr (inr n)) = by (symbol_of n.0) x n.1
+  where
+    same : (k x : Kind × ℕ) → Some k ≡ Some x → k ≡ x
+    same k x e = cc
+
+    by : (a : Symbol) (x : Kind × ℕ) → kind_by a ≡ Some x → is_size_of x.0 x.1 ≡ true
+    by s.Four x e = ap (λ (k : Kind × ℕ). is_size_of k.0 k.1) (sym (same (Index, 4) x e))
+    by s.Eight x e = ap (λ (k : Kind × ℕ). is_size_of k.0 k.1) (sym (same (Ring, 8) x e))
+    by _ x e = cc
+
+kind_sized : (m : ℕ) → Holds m g2.kind Sized
+unfolding g2.kind g2.kind_brackets
+kind_sized m x us sp (inr n) = holds_gives m (Index, 4) Sized refl x us sp n
+kind_sized m x us sp (inl n) = holds_bind m (one (marked s.Open)) _ (λ _ a. m ≤ a) Sized (holds_any m _)
+    (λ _ a _. holds_bind a g2.kind_word _ (λ _ b. a ≤ b) Sized (holds_any a _)
+    (λ _ b _. holds_bind b g2.kind_value _ Sized Sized (value_sized b)
+    (λ k c K. holds_bind c (one (marked s.Close)) _ (λ _ e. c ≤ e) Sized (holds_any c _) (λ _ e _. holds_gives e k Sized K)))) x us sp n
+
+declared_well : (ds : List Decl) (line : ℕ) (k : Kind × ℕ) (i : Intent) (x : Word) (dims : List Dim) → nat_le (length ds + 1) 512 ≡ true → is_variable x.name ≡ true → is_size_of k.0 k.1 ≡ true → list_all is_readable_dim dims ≡ true → Declares_well ds →
     Declares_well (declared ds line k i x dims)
-declared_well ds line k i x dims h named shaped D =
-    let d : Decl = record { line = line; name = x.name; kind = k; bytes = bytes_of k; intent = i; dims = dims } in
+declared_well ds line k i x dims h named sized shaped D =
+    let d : Decl = record { line = line; name = x.name; kind = k.0; bytes = k.1; intent = i; dims = dims } in
     let size = length-append ds (d ∷ []) in
     record {
       few = grind (arith, nat_tests);
-      readable = list_all-append is_readable_decl ds (d ∷ []) ∙ and_true _ _ D.readable (and_true _ _ (and_true _ _ named (and_true _ _ (size_of k) shaped)) refl);
+      readable = list_all-append is_readable_decl ds (d ∷ []) ∙ and_true _ _ D.readable (and_true _ _ (and_true _ _ named (and_true _ _ sized shaped)) refl);
     }
 
-item_well : (line : ℕ) (k : Kind) (i : Intent) (ds : List Decl) → nat_le (length ds + 1) 512 ≡ true → Declares_well ds → (m : ℕ) → Holds m (g2.item line k i ds) (λ es n. Declares_well es)
+item_well : (line : ℕ) (k : Kind × ℕ) (i : Intent) (ds : List Decl) → is_size_of k.0 k.1 ≡ true → nat_le (length ds + 1) 512 ≡ true → Declares_well ds → (m : ℕ) → Holds m (g2.item line k i ds) (λ es n. Declares_well es)
 unfolding g2.item
-item_well line k i ds h D m = holds_bind m (one name) _ (λ x n. is_variable x.name ≡ true) (λ es n. Declares_well es) (holds_name m)
+item_well line k i ds sized h D m = holds_bind m (one name) _ (λ x n. is_variable x.name ≡ true) (λ es n. Declares_well es) (holds_name m)
     (λ x a named. holds_bind a g3.shape _ AreDims (λ es n. Declares_well es) (shape_is a)
-    (λ dims n shaped. holds_gives n (declared ds line k i x dims) (λ es n. Declares_well es) (declared_well ds line k i x dims h named shaped D)))
+    (λ dims n shaped. holds_gives n (declared ds line k i x dims) (λ es n. Declares_well es) (declared_well ds line k i x dims h named sized shaped D)))
 
 decls_well : (m : ℕ) → Holds m (g2.decls the_limits) (λ ds k. Declares_well ds)
 unfolding g2.decls g2.decl g2.items g2.another_item
 decls_well m = holds_many (g2.may_declare the_limits) (g2.decl the_limits) (λ ds k. Declares_well ds)
     (λ ds a D h. holds_bind a (one (marked s.Integer)) _ (λ _ b. a ≤ b) (λ es k. Declares_well es) (holds_any a _)
-    (λ line b _. holds_bind b g2.kind _ (λ _ c. b ≤ c) (λ es k. Declares_well es) (holds_any b _)
-    (λ kind c _. holds_bind c g2.intent _ (λ _ e. c ≤ e) (λ es k. Declares_well es) (holds_any c _)
-    (λ i e _. holds_bind e (g2.item line kind i ds) _ (λ es k. Declares_well es) (λ es k. Declares_well es) (item_well line kind i ds h D e)
+    (λ line b _. holds_bind b g2.kind _ Sized (λ es k. Declares_well es) (kind_sized b)
+    (λ kind c K. holds_bind c g2.intent _ (λ _ e. c ≤ e) (λ es k. Declares_well es) (holds_any c _)
+    (λ i e _. holds_bind e (g2.item line kind i ds) _ (λ es k. Declares_well es) (λ es k. Declares_well es) (item_well line kind i ds K h D e)
     (λ first f E. holds_bind f (g2.items the_limits line kind i first) _ (λ es k. Declares_well es) (λ es k. Declares_well es)
     (holds_many (g2.may_declare the_limits) (g2.another_item the_limits line kind i) (λ es k. Declares_well es)
     (λ es k E r. holds_bind k (one (marked s.Comma)) _ (λ _ n. k ≤ n) (λ es n. Declares_well es) (holds_any k _)
-    (λ _ n _. item_well line kind i es r E n)) first f E)
+    (λ _ n _. item_well line kind i es K r E n)) first f E)
     (λ found n F. holds_bind n (one (marked s.LineEnd)) _ (λ _ k. n ≤ k) (λ es k. Declares_well es) (holds_any n _)
     (λ _ k _. holds_gives k found (λ es k. Declares_well es) F)))))))
     [] m (record { few = omega arith; readable = refl })

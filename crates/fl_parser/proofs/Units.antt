@@ -8,18 +8,31 @@ use Rattle.parsing.specs.Terminal.{same, on, is, reads, names, words}
 use Rattle.parsing.specs.Reading.{Lexemes, sees}
 use Rattle.parsing.specs.Grammar.{Grammar, gives, ◌>>=◌ as ◌⨟◌}
 use Rattle.fl_ast.specs.declared.kind.Kind.{Kind}
-use Rattle.fl_ast.specs.declared.kind.Kind.TheVariants.{Index}
+use Rattle.fl_ast.specs.declared.kind.Kind.TheVariants.{Index, Ring}
 use Rattle.fl_ast.specs.declared.kind.Intent.{Intent}
 use Rattle.fl_ast.specs.declared.kind.Intent.TheVariants.{Unsaid, ReadOnly, WriteOnly, Both}
 use Rattle.fl_ast.specs.declared.decl.Decl.{Decl}
+use Rattle.std.specs.Prelude.{bytes_eq, ◌&&◌, Option, Some, None, not}
+use Rattle.std.specs.Str.{str_to_ascii_lowercase}
+use Rattle.std.proofs.Common.{sym, ap, ◌∙◌}
+use Rattle.std.proofs.lemmas.Slice.Eq.{bytes_eq-Decides}
+use Rattle.tokens.specs.Lexeme.{Lexeme}
+use Rattle.tokens.specs.declared.TokenKind.{TokenKind}
+use Rattle.tokens.specs.declared.TokenKind.TheVariants.{Word as word_token, Number as number_token, Mark as mark_token, Dots as dots_token, Sentinel as sentinel_token, LineEnd as end_token}
+use Rattle.parsing.specs.Symbol.{symbol_of, symbol_by}
+use Rattle.parsing.specs.Grammar.{one}
+use Rattle.parsing.specs.Terminal.{numbers, some, spelled, spelled_number}
+use Rattle.parsing.proofs.Exact.{token_exact}
+use Rattle.parsing.proofs.OnSymbols.{begins_one}
+use Rattle.parsing.proofs.Rules.{meets_or}
 use Rattle.fl_parser.specs.declared.unit.UnitHead.{UnitHead}
-use Rattle.fl_parser.specs.Terminals.{kind_by}
+use Rattle.fl_parser.specs.Terminals.{kind_by, one_text, two_text}
 use Rattle.fl_statements.specs.Limits.{Limits}
 use Rattle.fl_parser.specs.Trees.{declared, head_of, program}
 use Rattle.fl_statements.specs.Wide.{Widens}
 use Rattle.fl_parser.specs.UnitGrammar as g
 use Rattle.fl_parser.specs.UnitReading as p
-use Rattle.parsing.proofs.Outcomes.{never, sees-never, shrinks_pure, shrinks_seq, Bites}
+use Rattle.parsing.proofs.Outcomes.{differ, never, sees-never, shrinks_pure, shrinks_seq, Bites}
 use Rattle.parsing.proofs.Exact.{Exact, always_room, room_of, Begins, Meets, pure_exact, seq, shrinks_token}
 use Rattle.parsing.proofs.Rules.{narrow, anywhere, either, optional, loop_exact, begins_seq, begins_or, begins_opens, Opens, opens_or, opens_gives, opens_begins, opens_many, meets_never, gives_meets, meets_or, mapped}
 use Rattle.parsing.proofs.OnSymbols.{less, wider, among, meets, begins_in, begins_mark, begins_name, begins_by, begins_same_word, mark_exact, name_exact, word_exact, same_word_exact, by_exact, mark_then, bites_mark, apart}
@@ -34,11 +47,98 @@ kind_word_exact : (l : Freed) → Exact l g.kind_word (is s.Kind) p.kind_word p.
 unfolding g.kind_word p.kind_word
 kind_word_exact l = optional tt (anywhere (mark_then s.Kind _ _ _ (λ _. mark_then s.Equals _ _ _ (λ _. pure_exact tt)))) (begins_seq _ (begins_mark s.Kind)) (λ rest h. h)
 
+-- a token that is spelled so
+spelled_begins : (bytes : List ℕ) → Begins (one (spelled_number bytes)) (spelled bytes)
+spelled_begins bytes = begins_one (spelled_number bytes) (spelled bytes) (λ t x h. given (spelled bytes t) x h)
+  where
+    given : (b : Bool) (x : Unit {0}) → cond b (Some tt) None ≡ Some x → b ≡ true
+    given true x h = refl
+    given false x h = cc
+
+numbered : (bytes : List ℕ) (t : Lexeme) → spelled bytes t ≡ true → numbers (symbol_of t) ≡ true
+numbered bytes t h = first_true (numbers (symbol_of t)) _ h
+  where
+    first_true : (a b : Bool) → (a && b) ≡ true → a ≡ true
+    first_true true b e = refl
+    first_true false b e = e
+
+spelled_counts : (bytes : List ℕ) → Begins (one (spelled_number bytes)) (on numbers)
+spelled_counts bytes = begins_one (spelled_number bytes) (on numbers) (λ t x h. numbered bytes t (given (spelled bytes t) x h))
+  where
+    given : (b : Bool) (x : Unit {0}) → cond b (Some tt) None ≡ Some x → b ≡ true
+    given true x h = refl
+    given false x h = cc
+
+spelled_text : (bytes : List ℕ) (t : Lexeme) → spelled bytes t ≡ true → bytes_eq t.bytes (str_to_ascii_lowercase bytes) ≡ true
+spelled_text bytes t h = second_true (numbers (symbol_of t)) _ h
+  where
+    second_true : (a b : Bool) → (a && b) ≡ true → b ≡ true
+    second_true true b e = e
+    second_true false b e = cc
+
+text_is : (bytes : List ℕ) (t : Lexeme) → spelled bytes t ≡ true → t.bytes ≡ str_to_ascii_lowercase bytes
+text_is bytes t h = (bytes_eq-Decides t.bytes (str_to_ascii_lowercase bytes)).0 (spelled_text bytes t h)
+
+not_both : (a b : Bool) (e : a ≡ true → b ≡ true → ⊥) → a ≡ true → b ≡ false
+not_both a true e h = absurd (e h refl)
+not_both a false e h = refl
+
+one_exact : (l : Freed) → Exact l g.one_byte never p.one_byte p.one_byte
+unfolding g.one_byte p.one_byte symbol_by
+one_exact l = mapped (token_exact (spelled_number one_text) tt (record { line = 1; kind = number_token 1 None; bytes = one_text }) refl) (λ _. (Ring, 1))
+
+two_exact : (l : Freed) → Exact l g.two_bytes never p.two_bytes p.two_bytes
+unfolding g.two_bytes p.two_bytes symbol_by
+two_exact l = mapped (token_exact (spelled_number two_text) tt (record { line = 1; kind = number_token 2 None; bytes = two_text }) refl) (λ _. (Ring, 2))
+
+-- other numbers are spelled otherwise
+two_apart : (ts : Lexemes) → sees (spelled two_text) ts ≡ true → sees (spelled one_text) ts ≡ false
+two_apart [] h = refl
+two_apart (t ∷ ts) h = not_both (spelled two_text t) (spelled one_text t) (λ a b. differ (bytes_eq t.bytes (str_to_ascii_lowercase one_text)) (spelled_text one_text t b) (ap (λ v. bytes_eq v (str_to_ascii_lowercase one_text)) (text_is two_text t a))) h
+
+kinds_apart : (bytes : List ℕ) → ((k : TokenKind) → kind_by (symbol_by k (str_to_ascii_lowercase bytes)) ≡ None) → (ts : Lexemes) → sees (on (reads kind_by)) ts ≡ true → sees (spelled bytes) ts ≡ false
+kinds_apart bytes none [] h = refl
+kinds_apart bytes none (t ∷ ts) h = not_both (reads kind_by (symbol_of t)) (spelled bytes t) (λ a b. wrong (kind_by (symbol_of t)) (ap (λ v. kind_by (symbol_by t.kind v)) (text_is bytes t b) ∙ none t.kind) a) h
+  where
+    wrong : (o : Option (Kind × ℕ)) → o ≡ None → some o ≡ true → ⊥
+    wrong None e h = cc
+    wrong (Some x) e h = cc
+
+no_one : (k : TokenKind) → kind_by (symbol_by k (str_to_ascii_lowercase one_text)) ≡ None
+unfolding symbol_by
+no_one word_token = refl
+no_one (number_token v f) = refl
+no_one mark_token = refl
+no_one dots_token = refl
+no_one sentinel_token = refl
+no_one end_token = refl
+
+no_two : (k : TokenKind) → kind_by (symbol_by k (str_to_ascii_lowercase two_text)) ≡ None
+unfolding symbol_by
+no_two word_token = refl
+no_two (number_token v f) = refl
+no_two mark_token = refl
+no_two dots_token = refl
+no_two sentinel_token = refl
+no_two end_token = refl
+
+value_exact : (l : Freed) → Exact l g.kind_value never p.kind_value p.kind_value
+unfolding g.kind_value p.kind_value g.one_byte g.two_bytes
+value_exact l = either (one_exact l) (either (two_exact l) (by_exact kind_by s.Four (Index, 4) refl) (begins_seq _ (spelled_begins two_text))
+    (λ z ws rest m _. kinds_apart two_text no_two (ws ++ rest) (begins_by kind_by z ws rest m)))
+    (begins_seq _ (spelled_begins one_text))
+    (meets_or _ _ (spelled one_text) never (λ z ws rest m _. two_apart (ws ++ rest) (begins_seq (λ (_ : Unit {0}). gives {A = Kind × ℕ} (Ring, 2)) (spelled_begins two_text) z ws rest m))
+    (λ z ws rest m _. kinds_apart one_text no_one (ws ++ rest) (begins_by kind_by z ws rest m)))
+
+value_begins : Begins g.kind_value (on numbers)
+unfolding g.kind_value g.one_byte g.two_bytes
+value_begins = begins_or _ _ (on numbers) (begins_seq _ (spelled_counts one_text)) (begins_or _ _ (on numbers) (begins_seq _ (spelled_counts two_text)) (begins_in (reads kind_by) numbers _ (begins_by kind_by) refl refl))
+
 kind_brackets_exact : (l : Freed) → Exact l g.kind_brackets never p.kind_brackets p.kind_brackets
 unfolding g.kind_brackets p.kind_brackets
 kind_brackets_exact l =
-    mark_then s.Open _ _ _ (λ _. seq (kind_word_exact l) (λ _. seq (by_exact kind_by s.Four Index refl) (λ k. mark_then s.Close _ _ _ (λ _. pure_exact k)) (λ k. meets_never never _))
-    (λ _. meets (reads kind_by) (same s.Kind) never _ (begins_seq _ (begins_by kind_by)) refl refl))
+    mark_then s.Open _ _ _ (λ _. seq (kind_word_exact l) (λ _. seq (value_exact l) (λ k. mark_then s.Close _ _ _ (λ _. pure_exact k)) (λ k. meets_never never _))
+    (λ _. meets numbers (same s.Kind) never _ (begins_seq _ value_begins) refl refl))
 
 kind_brackets_begins : Begins g.kind_brackets (is s.Open)
 unfolding g.kind_brackets
@@ -46,7 +146,7 @@ kind_brackets_begins = begins_seq _ (begins_mark s.Open)
 
 kind_exact : (l : Freed) → Exact l g.kind (is s.Open) p.kind p.kind
 unfolding g.kind p.kind
-kind_exact l = optional Index (anywhere (kind_brackets_exact l)) kind_brackets_begins (λ rest h. h)
+kind_exact l = optional (Index, 4) (anywhere (kind_brackets_exact l)) kind_brackets_begins (λ rest h. h)
 
 inward_exact : (l : Freed) → Exact l g.inward (is s.Out) p.inward p.inward
 unfolding g.inward g.and_out p.inward
@@ -126,34 +226,34 @@ shapes = among (s.Comma ∷ s.Open ∷ [])
 abbrev ends_item : Symbol → Bool
 ends_item = among (s.Comma ∷ s.LineEnd ∷ [])
 
-item_exact : (l : Freed) (line : ℕ) (k : Kind) (i : Intent) (ds : List Decl) → Exact l (g.item line k i ds) (is s.Open) (p.item line k i ds) (p.item line k i ds)
+item_exact : (l : Freed) (line : ℕ) (k : Kind × ℕ) (i : Intent) (ds : List Decl) → Exact l (g.item line k i ds) (is s.Open) (p.item line k i ds) (p.item line k i ds)
 unfolding g.item p.item
 item_exact l line k i ds = seq name_exact (λ x. mapped (shape_exact l) (declared ds line k i x)) (λ x. meets_never (is s.Open) _)
 
-item_begins : (line : ℕ) (k : Kind) (i : Intent) (ds : List Decl) → Begins (g.item line k i ds) (on names)
+item_begins : (line : ℕ) (k : Kind × ℕ) (i : Intent) (ds : List Decl) → Begins (g.item line k i ds) (on names)
 unfolding g.item
 item_begins line k i ds = begins_seq _ begins_name
 
 module _ (l : Freed) (limits wide : Limits) (W : Widens l limits wide) where
-  another_item_exact : (line : ℕ) (k : Kind) (i : Intent) (ds : List Decl) → Exact l (g.another_item limits line k i ds) (is s.Open) (p.another_item limits line k i ds) (p.another_item wide line k i ds)
+  another_item_exact : (line : ℕ) (k : Kind × ℕ) (i : Intent) (ds : List Decl) → Exact l (g.another_item limits line k i ds) (is s.Open) (p.another_item limits line k i ds) (p.another_item wide line k i ds)
   unfolding g.another_item p.another_item
   another_item_exact line k i ds = mark_then s.Comma _ _ _ (λ _. item_exact l line k i ds)
 
-  another_item_begins : (line : ℕ) (k : Kind) (i : Intent) (ds : List Decl) → Begins (g.another_item limits line k i ds) (is s.Comma)
+  another_item_begins : (line : ℕ) (k : Kind × ℕ) (i : Intent) (ds : List Decl) → Begins (g.another_item limits line k i ds) (is s.Comma)
   unfolding g.another_item
   another_item_begins line k i ds = begins_seq _ (begins_mark s.Comma)
 
-  another_item_bites : (line : ℕ) (k : Kind) (i : Intent) (ds : List Decl) → Bites (p.another_item wide line k i ds) (is s.Comma)
+  another_item_bites : (line : ℕ) (k : Kind × ℕ) (i : Intent) (ds : List Decl) → Bites (p.another_item wide line k i ds) (is s.Comma)
   unfolding p.another_item
   another_item_bites line k i ds = bites_mark s.Comma _ (λ _. (item_exact l line k i ds).shrinks)
 
-  items_exact : (line : ℕ) (k : Kind) (i : Intent) (ds : List Decl) → Exact l (g.items limits line k i ds) (on shapes) (p.items limits line k i ds) (p.items wide line k i ds)
+  items_exact : (line : ℕ) (k : Kind × ℕ) (i : Intent) (ds : List Decl) → Exact l (g.items limits line k i ds) (on shapes) (p.items limits line k i ds) (p.items wide line k i ds)
   unfolding g.items p.items
   items_exact line k i = loop_exact l (is s.Comma) (is s.Open) (on shapes) (g.may_declare limits) (g.may_declare wide) Many _ _ _
       (λ ds. room_of W.names (length ds + 1)) (another_item_exact line k i) (another_item_begins line k i) (another_item_bites line k i)
       (less (same s.Open) shapes refl refl) (less (same s.Comma) shapes refl refl) (apart (same s.Comma) (same s.Open) refl refl)
 
-  items_open : (line : ℕ) (k : Kind) (i : Intent) (ds : List Decl) → Opens (g.items limits line k i ds) (is s.Comma)
+  items_open : (line : ℕ) (k : Kind × ℕ) (i : Intent) (ds : List Decl) → Opens (g.items limits line k i ds) (is s.Comma)
   unfolding g.items
   items_open line k i = opens_many _ _ (is s.Comma) (another_item_begins line k i)
 

@@ -1,5 +1,5 @@
 -- What some tokens are read as.
-use Rattle.std.specs.Prelude.{Bool, Option, Some, None}
+use Rattle.std.specs.Prelude.{ℕ, List, codes, Bool, Option, Some, None}
 use Rattle.tokens.specs.Lexeme.{Lexeme}
 use Rattle.fl_ast.specs.declared.decl.Sign.{Sign}
 use Rattle.fl_ast.specs.declared.decl.Sign.TheVariants as sign
@@ -10,13 +10,20 @@ use Rattle.parsing.specs.declared.symbol.Symbol.TheVariants as s
 use Rattle.parsing.specs.declared.cursor.Number.{Number}
 use Rattle.parsing.specs.Terminal.{by, on, reads, plain_number}
 
-abbrev pub kind_by : Symbol → Option Kind
-kind_by s.Four = Some Index
-kind_by s.Eight = Some Ring
+-- a kind with its bytes
+abbrev pub kind_by : Symbol → Option (Kind × ℕ)
+kind_by s.Four = Some (Index, 4)
+kind_by s.Eight = Some (Ring, 8)
 kind_by _ = None
 
-abbrev pub kind_number : Lexeme → Option Kind
+abbrev pub kind_number : Lexeme → Option (Kind × ℕ)
 kind_number = by kind_by
+
+abbrev pub one_text : List ℕ
+one_text = codes "1"
+
+abbrev pub two_text : List ℕ
+two_text = codes "2"
 
 -- a number in a bound of a declaration is at most 2^32-1
 abbrev pub bound_number : Lexeme → Option Number

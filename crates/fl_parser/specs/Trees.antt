@@ -1,6 +1,5 @@
 -- The trees that are read.
 use Rattle.std.specs.Prelude.{ℕ, List, [], ◌∷◌, ◌++◌, Option}
-use Rattle.fl_ast.specs.Sizes.{bytes_of}
 use Rattle.fl_ast.specs.declared.kind.Kind.{Kind}
 use Rattle.fl_ast.specs.declared.kind.Intent.{Intent}
 use Rattle.fl_ast.specs.declared.decl.Sign.{Sign}
@@ -24,8 +23,8 @@ abbrev pub dim_of : Option Bound → Bound → Dim
 dim_of l u = record { lower = l; upper = u }
 
 -- one more name
-abbrev pub declared : List Decl → ℕ → Kind → Intent → Word → List Dim → List Decl
-declared ds line k i x dims = ds ++ (record { line = line; name = x.name; kind = k; bytes = bytes_of k; intent = i; dims = dims }) ∷ []
+abbrev pub declared : List Decl → ℕ → Kind × ℕ → Intent → Word → List Dim → List Decl
+declared ds line k i x dims = ds ++ (record { line = line; name = x.name; kind = k.0; bytes = k.1; intent = i; dims = dims }) ∷ []
 
 abbrev pub head_of : ℕ → Word → List (List ℕ) → UnitHead
 head_of line x args = record { line = line; name = x.name; args = args }

@@ -1,17 +1,17 @@
 -- The grammar of a unit.
 use Rattle.std.specs.Prelude.{false, ℕ, ◌+◌, Bool, true, List, [], ◌∷◌, ◌++◌, length}
 use Rattle.fl_ast.specs.declared.kind.Kind.{Kind}
-use Rattle.fl_ast.specs.declared.kind.Kind.TheVariants.{Index}
+use Rattle.fl_ast.specs.declared.kind.Kind.TheVariants.{Index, Ring}
 use Rattle.fl_ast.specs.declared.kind.Intent.{Intent}
 use Rattle.fl_ast.specs.declared.kind.Intent.TheVariants.{Unsaid, ReadOnly, WriteOnly, Both}
 use Rattle.fl_ast.specs.declared.decl.Decl.{Decl}
 use Rattle.fl_ast.specs.declared.stmt.Program.{Program}
 use Rattle.parsing.specs.declared.symbol.Symbol.TheVariants as s
 use Rattle.parsing.specs.Limit.{allows}
-use Rattle.parsing.specs.Terminal.{marked, name, word, same_word}
+use Rattle.parsing.specs.Terminal.{marked, name, word, same_word, spelled_number}
 use Rattle.parsing.specs.Grammar.{Grammar, ◌>>=◌, gives, one, ◌or◌, where_, many}
 use Rattle.fl_parser.specs.declared.unit.UnitHead.{UnitHead}
-use Rattle.fl_parser.specs.Terminals.{kind_number}
+use Rattle.fl_parser.specs.Terminals.{kind_number, one_text, two_text}
 use Rattle.fl_statements.specs.declared.block.Block.{Block}
 use Rattle.fl_statements.specs.Limits.{Limits}
 use Rattle.fl_statements.specs.Trees.{block_from}
@@ -30,18 +30,34 @@ kind_word =
       gives tt)
     or gives tt
 
--- "(" [ "kind" "=" ] ("4"|"8") ")"
-unfoldable pub kind_brackets : Grammar Kind
+-- "1"
+unfoldable pub one_byte : Grammar (Kind × ℕ)
+one_byte = do
+  number ← one (spelled_number one_text)
+  gives (Ring, 1)
+
+-- "2"
+unfoldable pub two_bytes : Grammar (Kind × ℕ)
+two_bytes = do
+  number ← one (spelled_number two_text)
+  gives (Ring, 2)
+
+-- "1" | "2" | "4" | "8"
+unfoldable pub kind_value : Grammar (Kind × ℕ)
+kind_value = one_byte or (two_bytes or one kind_number)
+
+-- "(" [ "kind" "=" ] kind-value ")"
+unfoldable pub kind_brackets : Grammar (Kind × ℕ)
 kind_brackets = do
   open_ ← one (marked s.Open)
   said ← kind_word
-  k ← one kind_number
+  k ← kind_value
   close ← one (marked s.Close)
   gives k
 
--- [ "(" [ "kind" "=" ] ("4"|"8") ")" ]
-unfoldable pub kind : Grammar Kind
-kind = kind_brackets or gives Index
+-- [ "(" [ "kind" "=" ] kind-value ")" ]
+unfoldable pub kind : Grammar (Kind × ℕ)
+kind = kind_brackets or gives (Index, 4)
 
 -- [ "out" ]
 unfoldable pub and_out : Grammar Intent
@@ -95,7 +111,7 @@ unfoldable pub intent : Grammar Intent
 intent = intent_list or colons
 
 -- name [ "(" dim {"," dim} ")" ]
-unfoldable pub item : ℕ → Kind → Intent → List Decl → Grammar (List Decl)
+unfoldable pub item : ℕ → Kind × ℕ → Intent → List Decl → Grammar (List Decl)
 item line k i ds = do
   x ← one name
   dims ← shape
@@ -107,12 +123,12 @@ module _ (limits : Limits) where
   may_declare ds = allows limits.names (length ds + 1)
 
   -- "," item
-  unfoldable pub another_item : ℕ → Kind → Intent → List Decl → Grammar (List Decl)
+  unfoldable pub another_item : ℕ → Kind × ℕ → Intent → List Decl → Grammar (List Decl)
   another_item line k i ds = do
     comma ← one (marked s.Comma)
     item line k i ds
 
-  unfoldable pub items : ℕ → Kind → Intent → List Decl → Grammar (List Decl)
+  unfoldable pub items : ℕ → Kind × ℕ → Intent → List Decl → Grammar (List Decl)
   items line k i = many (λ ds. where_ (may_declare ds) (another_item line k i ds))
 
   -- "integer" [ kind ] [ intent ] item { "," item } eol

@@ -1,7 +1,7 @@
 -- How a unit is read.
 use Rattle.std.specs.Prelude.{false, ℕ, ◌+◌, Bool, true, List, [], ◌∷◌, ◌++◌, length}
 use Rattle.fl_ast.specs.declared.kind.Kind.{Kind}
-use Rattle.fl_ast.specs.declared.kind.Kind.TheVariants.{Index}
+use Rattle.fl_ast.specs.declared.kind.Kind.TheVariants.{Index, Ring}
 use Rattle.fl_ast.specs.declared.kind.Intent.{Intent}
 use Rattle.fl_ast.specs.declared.kind.Intent.TheVariants.{Unsaid, ReadOnly, WriteOnly, Both}
 use Rattle.fl_ast.specs.declared.decl.Decl.{Decl}
@@ -9,10 +9,10 @@ use Rattle.fl_ast.specs.declared.stmt.Program.{Program}
 use Rattle.parsing.specs.declared.symbol.Symbol.TheVariants as s
 use Rattle.parsing.specs.declared.fault.Cause.TheVariants.{Expected, Many}
 use Rattle.parsing.specs.Limit.{allows}
-use Rattle.parsing.specs.Terminal.{is, on, marked, names, name, words, word, same_word}
+use Rattle.parsing.specs.Terminal.{is, on, marked, names, name, words, word, same_word, spelled, spelled_number}
 use Rattle.parsing.specs.Reading.{Parser, ◌>>=◌, pure, token, choose, loop}
 use Rattle.fl_parser.specs.declared.unit.UnitHead.{UnitHead}
-use Rattle.fl_parser.specs.Terminals.{kind_number}
+use Rattle.fl_parser.specs.Terminals.{kind_number, one_text, two_text}
 use Rattle.fl_statements.specs.declared.block.Block.{Block}
 use Rattle.fl_statements.specs.Limits.{Limits}
 use Rattle.fl_statements.specs.Trees.{block_from}
@@ -31,17 +31,29 @@ kind_word = choose (is s.Kind)
       pure tt)
     (pure tt)
 
--- "(" [ "kind" "=" ] ("4"|"8") ")"
-unfoldable pub kind_brackets : Parser Kind
+unfoldable pub one_byte : Parser (Kind × ℕ)
+one_byte = do
+  number ← token (spelled_number one_text)
+  pure (Ring, 1)
+
+unfoldable pub two_bytes : Parser (Kind × ℕ)
+two_bytes = do
+  number ← token (spelled_number two_text)
+  pure (Ring, 2)
+
+unfoldable pub kind_value : Parser (Kind × ℕ)
+kind_value = choose (spelled one_text) one_byte (choose (spelled two_text) two_bytes (token kind_number))
+
+unfoldable pub kind_brackets : Parser (Kind × ℕ)
 kind_brackets = do
   open_ ← token (marked s.Open)
   said ← kind_word
-  k ← token kind_number
+  k ← kind_value
   close ← token (marked s.Close)
   pure k
 
-unfoldable pub kind : Parser Kind
-kind = choose (is s.Open) kind_brackets (pure Index)
+unfoldable pub kind : Parser (Kind × ℕ)
+kind = choose (is s.Open) kind_brackets (pure (Index, 4))
 
 -- "in" [ "out" ]
 unfoldable pub inward : Parser Intent
@@ -87,7 +99,7 @@ colons = choose (is s.Colons)
 unfoldable pub intent : Parser Intent
 intent = choose (is s.Comma) intent_list colons
 
-unfoldable pub item : ℕ → Kind → Intent → List Decl → Parser (List Decl)
+unfoldable pub item : ℕ → Kind × ℕ → Intent → List Decl → Parser (List Decl)
 item line k i ds = do
   x ← token name
   dims ← shape
@@ -99,12 +111,12 @@ module _ (limits : Limits) where
   may_declare ds = allows limits.names (length ds + 1)
 
   -- "," item
-  unfoldable pub another_item : ℕ → Kind → Intent → List Decl → Parser (List Decl)
+  unfoldable pub another_item : ℕ → Kind × ℕ → Intent → List Decl → Parser (List Decl)
   another_item line k i ds = do
     comma ← token (marked s.Comma)
     item line k i ds
 
-  unfoldable pub items : ℕ → Kind → Intent → List Decl → Parser (List Decl)
+  unfoldable pub items : ℕ → Kind × ℕ → Intent → List Decl → Parser (List Decl)
   items line k i = loop (is s.Comma) may_declare Many (another_item line k i)
 
   unfoldable pub decl : List Decl → Parser (List Decl)

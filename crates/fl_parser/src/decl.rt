@@ -9,7 +9,7 @@ ghost use Rattle.fl_parser.specs.Trees as trees;
 ghost use Rattle.fl_parser.specs.UnitReading as spec;
 
 use crate::dims::shape;
-use fl_ast::{Decl, Dim, Intent, Kind, bytes_of};
+use fl_ast::{Decl, Dim, Intent, Kind};
 use fl_base::{Items, Memory};
 use fl_statements::{Limits, has_room};
 use parsing::{Cause, Cursor, Failure, Symbol, Word};
@@ -20,6 +20,7 @@ use std::alloc::Global;
 struct Head {
     line: u32,
     kind: Kind,
+    bytes: u32,
     intent: Intent,
 }
 
@@ -29,33 +30,63 @@ fn declared(
     word: Word,
     dims: Items<Dim>,
 ) -> Result<Items<Decl>, Memory>
-    ensures { IfOk result (λ x. x ≡ trees.declared found head.line head.kind head.intent word dims) }
+    ensures { IfOk result (λ x. x ≡ trees.declared found head.line (head.kind, head.bytes) head.intent word dims) }
 {
     found.push(Decl {
         line: head.line,
         name: word.name,
         kind: head.kind,
-        bytes: bytes_of(head.kind),
+        bytes: head.bytes,
         intent: head.intent,
         dims,
     })?;
     Ok(found)
 }
 
-fn kind_number(tokens: &mut Cursor<'_>) -> Result<Kind, Failure>
+fn kind_number(tokens: &mut Cursor<'_>) -> Result<(Kind, u32), Failure>
     ensures { Reads (reading.token terminals.kind_number tokens.old) result tokens.new }
 {
     match tokens.ahead() {
         Some(Symbol::Four) => {
             let _number = tokens.mark(Symbol::Four)?;
-            Ok(Kind::Index)
+            Ok((Kind::Index, 4))
         }
         Some(Symbol::Eight) => {
             let _number = tokens.mark(Symbol::Eight)?;
-            Ok(Kind::Ring)
+            Ok((Kind::Ring, 8))
         }
         _ => Err(tokens.refuse(Cause::Expected)),
     }
+}
+
+#[tactic(auto, unfolding(crate::specs::UnitReading::one_byte))]
+fn one_byte(tokens: &mut Cursor<'_>) -> Result<(Kind, u32), Failure>
+    ensures { Reads (spec.one_byte tokens.old) result tokens.new }
+{
+    tokens.spelled_number(b"1")?;
+    Ok((Kind::Ring, 1))
+}
+
+#[tactic(auto, unfolding(crate::specs::UnitReading::two_bytes))]
+fn two_bytes(tokens: &mut Cursor<'_>) -> Result<(Kind, u32), Failure>
+    ensures { Reads (spec.two_bytes tokens.old) result tokens.new }
+{
+    tokens.spelled_number(b"2")?;
+    Ok((Kind::Ring, 2))
+}
+
+/// A kind by its bytes, in just this spelling.
+#[tactic(auto, unfolding(crate::specs::UnitReading::kind_value))]
+fn kind_value(tokens: &mut Cursor<'_>) -> Result<(Kind, u32), Failure>
+    ensures { Reads (spec.kind_value tokens.old) result tokens.new }
+{
+    if tokens.sees_spelled(b"1") {
+        return one_byte(tokens);
+    }
+    if tokens.sees_spelled(b"2") {
+        return two_bytes(tokens);
+    }
+    kind_number(tokens)
 }
 
 #[tactic(auto, unfolding(crate::specs::UnitReading::kind_word))]
@@ -70,24 +101,24 @@ fn kind_word(tokens: &mut Cursor<'_>) -> Result<(), Failure>
 }
 
 #[tactic(auto, unfolding(crate::specs::UnitReading::kind_brackets))]
-fn kind_brackets(tokens: &mut Cursor<'_>) -> Result<Kind, Failure>
+fn kind_brackets(tokens: &mut Cursor<'_>) -> Result<(Kind, u32), Failure>
     ensures { Reads (spec.kind_brackets tokens.old) result tokens.new }
 {
     let _open = tokens.mark(Symbol::Open)?;
     kind_word(tokens)?;
-    let kind = kind_number(tokens)?;
+    let kind = kind_value(tokens)?;
     let _close = tokens.mark(Symbol::Close)?;
     Ok(kind)
 }
 
 #[tactic(auto, unfolding(crate::specs::UnitReading::kind))]
-fn kind(tokens: &mut Cursor<'_>) -> Result<Kind, Failure>
+fn kind(tokens: &mut Cursor<'_>) -> Result<(Kind, u32), Failure>
     ensures { Reads (spec.kind tokens.old) result tokens.new }
 {
     if tokens.sees(Symbol::Open) {
         return kind_brackets(tokens);
     }
-    Ok(Kind::Index)
+    Ok((Kind::Index, 4))
 }
 
 #[tactic(auto, unfolding(crate::specs::UnitReading::inward))]
@@ -164,7 +195,7 @@ fn item(
     head: Head,
     found: Items<Decl>,
 ) -> Result<Items<Decl>, Failure>
-    ensures { Reads (spec.item head.line head.kind head.intent found tokens.old) result tokens.new }
+    ensures { Reads (spec.item head.line (head.kind, head.bytes) head.intent found tokens.old) result tokens.new }
 {
     let word = tokens.name(alloc)?;
     let dims = shape(alloc, tokens)?;
@@ -179,7 +210,7 @@ fn another_item(
     head: Head,
     found: Items<Decl>,
 ) -> Result<Items<Decl>, Failure>
-    ensures { Reads (spec.another_item (limits_of limits) head.line head.kind head.intent found tokens.old) result tokens.new }
+    ensures { Reads (spec.another_item (limits_of limits) head.line (head.kind, head.bytes) head.intent found tokens.old) result tokens.new }
 {
     let _comma = tokens.mark(Symbol::Comma)?;
     item(alloc, tokens, head, found)
@@ -192,7 +223,7 @@ fn items(
     head: Head,
     mut found: Items<Decl>,
 ) -> Result<Items<Decl>, Failure>
-    ensures { Reads (spec.items (limits_of limits) head.line head.kind head.intent found tokens.old) result tokens.new }
+    ensures { Reads (spec.items (limits_of limits) head.line (head.kind, head.bytes) head.intent found tokens.old) result tokens.new }
 {
     for _turn in 0..tokens.len() {
         if !tokens.sees(Symbol::Comma) {
@@ -216,9 +247,14 @@ fn decl(
     ensures { Reads (spec.decl (limits_of limits) found tokens.old) result tokens.new }
 {
     let line = tokens.mark(Symbol::Integer)?;
-    let kind = kind(tokens)?;
+    let (kind, bytes) = kind(tokens)?;
     let intent = intent(tokens)?;
-    let head = Head { line, kind, intent };
+    let head = Head {
+        line,
+        kind,
+        bytes,
+        intent,
+    };
     let first = item(alloc, tokens, head, found)?;
     let found = items(alloc, tokens, limits, head, first)?;
     let _eol = tokens.mark(Symbol::LineEnd)?;

@@ -194,6 +194,13 @@ word t = if on words t then Some (word_of t) else None
 abbrev pub same_word : List ℕ → Lexeme → Option (Unit {0})
 same_word bytes t = if on words t && bytes_eq t.bytes (str_to_ascii_lowercase bytes) then Some tt else None
 
+-- a number that is spelled so
+abbrev pub spelled : List ℕ → Lexeme → Bool
+spelled bytes t = on numbers t && bytes_eq t.bytes (str_to_ascii_lowercase bytes)
+
+abbrev pub spelled_number : List ℕ → Lexeme → Option (Unit {0})
+spelled_number bytes t = if spelled bytes t then Some tt else None
+
 abbrev pub number_by : TokenKind → Option Number
 number_by (kind.Number value suffix) = Some (record { value = value; suffix = suffix })
 number_by _ = None

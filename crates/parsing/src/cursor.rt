@@ -275,6 +275,35 @@ impl<'a> Cursor<'a> {
         Err(self.refuse(Cause::Expected))
     }
 
+    /// Whether a number comes that is spelled so.
+    pub fn sees_spelled(&self, spelling: &[u8]) -> bool
+        ensures { result ≡ reading.sees (terminal.spelled spelling.now) self.now }
+    {
+        if let [token, ..] = self.rest {
+            if let Some(ahead) = self.ahead {
+                return ahead.numbers() && is_same(text_of(self.text, *token), spelling);
+            }
+        }
+        false
+    }
+
+    /// Takes the number that is spelled so.
+    pub fn spelled_number(&mut self, spelling: &[u8]) -> Result<(), Failure>
+        ensures reads { Reads (reading.token (terminal.spelled_number spelling.now) self.old) result self.new }
+        ensures sure { result ≢ Err Failure.Memory }
+    {
+        if let [token, rest @ ..] = self.rest {
+            if let Some(ahead) = self.ahead {
+                if ahead.numbers() && is_same(text_of(self.text, *token), spelling) {
+                    self.rest = rest;
+                    self.ahead = first_symbol(self.text, rest);
+                    return Ok(());
+                }
+            }
+        }
+        Err(self.refuse(Cause::Expected))
+    }
+
     pub fn sees_name(&self) -> bool
         ensures { result ≡ reading.sees (terminal.on terminal.names) self.now }
     {

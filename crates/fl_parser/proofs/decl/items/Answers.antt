@@ -15,6 +15,6 @@ loop-turn-init c = first_of (search rules, grind (arith, common_steps))
 
 pub loop-turn-preserved : goal.loop-turn-preserved
 loop-turn-preserved c =
-    let e = one_more (λ n. turns (is s.Comma) (spec.may_declare (limits_of c.args.limits)) Many (spec.another_item (limits_of c.args.limits) c.args.head.line c.args.head.kind c.args.head.intent) n c.loop-turn.found c.loop-turn.tokens)
+    let e = one_more (λ n. turns (is s.Comma) (spec.may_declare (limits_of c.args.limits)) Many (spec.another_item (limits_of c.args.limits) c.args.head.line (c.args.head.kind, c.args.head.bytes) c.args.head.intent) n c.loop-turn.found c.loop-turn.tokens)
     _ c.loop-turn._turn c.loop-turn-test.true c.loop-turn.invariant in
     first_of (search rules, grind (arith, common_steps))
