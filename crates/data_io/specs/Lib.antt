@@ -1,2 +1,3 @@
 pub mod DataFaults
 pub mod Written
+pub mod Directions

@@ -3,9 +3,11 @@
 
 mod answer;
 mod data;
+mod direction;
 mod number;
 mod read;
 
 pub use answer::{Answer, RaceText, write_answer};
 pub use data::DataError;
+pub use direction::read_direction;
 pub use read::{read_args, read_seed};

@@ -247,7 +247,7 @@ fn args_entries(
     }
 }
 
-fn seed_entries(
+pub(crate) fn seed_entries(
     alloc: Global,
     values: &[Entry],
     decls: &[Decl],
