@@ -1,5 +1,5 @@
 -- What `tangent` answers.
-use Rattle.std.specs.Prelude.{ℕ, List, [], ◌∷◌, ◌++◌, length, map, take, filter, codes, Result, Ok, Err}
+use Rattle.std.specs.Prelude.{ℕ, List, [], ◌∷◌, ◌++◌, filter, codes}
 use Rattle.serde_json.specs.Data.{object, member, no_members}
 use Rattle.serde_json.specs.Written.{compact_text}
 use Rattle.fl_ast.specs.declared.stmt.Program.{Program}
@@ -9,24 +9,13 @@ use Rattle.store_core.specs.declared.layout.Shape.{Shape}
 use Rattle.store_core.specs.declared.values.Args.{Args}
 use Rattle.store_core.specs.declared.values.Direction.{Direction}
 use Rattle.store_core.specs.Filled.{place_words}
-use Rattle.store_core.specs.Keys.{keys_of}
-use Rattle.meaning.specs.declared.value.TrapAt.{TrapAt}
-use Rattle.meaning.specs.Sites.{Cells}
-use Rattle.meaning.specs.Adjoints.{tangent_of}
-use Rattle.meaning.specs.Programs.{meaning, no_pushes}
+use Rattle.meaning.specs.Programs.{final_tangents}
 use Rattle.data_io.specs.Written.{weights}
 use Rattle.answers.specs.Runs.{shown_at, values_of}
 
--- the tangents of the first n places after a run, none where it traps
-abbrev pub tangents_after : ℕ → Result Cells TrapAt → List ℕ
-tangents_after n (Ok cells) = take n (map tangent_of cells)
-tangents_after n (Err trap) = []
-
 -- the tangents of all places in a direction
 abbrev pub tangents_of : Program → List Shape → Args → Direction → List ℕ
-tangents_of program shapes args direction =
-    tangents_after (length (keys_of shapes))
-    (meaning (program_tree program) shapes no_pushes (place_words shapes args.entries) (place_words shapes direction.entries)).out
+tangents_of program shapes args direction = final_tangents (program_tree program) shapes (place_words shapes args.entries) (place_words shapes direction.entries)
 
 -- all arguments of the ring kind, in their order
 abbrev pub ring_arguments : Program → List (List ℕ)

@@ -13,7 +13,7 @@ use Rattle.meaning.specs.declared.value.TrapAt.{TrapAt}
 use Rattle.meaning.specs.Logs.{Event, begins, touches, pushes, ends, traps, Traced}
 use Rattle.meaning.specs.Sites.{Key, Cells, Site, opening_site, kind_of, word_of}
 use Rattle.meaning.specs.Statements.{Run, run_all}
-use Rattle.meaning.specs.Adjoints.{cells_along, adjoint_at}
+use Rattle.meaning.specs.Adjoints.{cells_along, adjoint_at, tangent_of}
 
 -- a word as a value of a kind, with tangent 0
 abbrev pub value_of_word : Kind → ℕ → Value
@@ -71,6 +71,15 @@ words_after n (Err t) = []
 -- the words of all places after a program's run, place by place
 abbrev pub final_words : Subroutine → List Shape → (words : List ℕ) → List ℕ
 final_words p shapes words = words_after (length (keys_of shapes)) (meaning p shapes no_pushes words []).out
+
+-- the tangents of the first n places after a run, none where it traps
+abbrev pub tangents_after : ℕ → Result Cells TrapAt → List ℕ
+tangents_after n (Ok cells) = take n (map tangent_of cells)
+tangents_after n (Err trap) = []
+
+-- the tangents of all places in a direction, place by place
+abbrev pub final_tangents : Subroutine → List Shape → (words direction : List ℕ) → List ℕ
+final_tangents p shapes words direction = tangents_after (length (keys_of shapes)) (meaning p shapes no_pushes words direction).out
 
 -- the adjoints of all places, place by place
 abbrev pub adjoint_words : Subroutine → List Shape → (words seed : List ℕ) → List ℕ
