@@ -1,6 +1,5 @@
 pub mod Supported
 pub mod Straight
-pub mod Checked
 pub mod Increment
 pub mod Sharing
 pub mod Nests

@@ -340,10 +340,10 @@ faults p = flat_map (faults_at p) (mentions p)
 unfoldable pub first_fault : Program → Option TypeError
 first_fault p = slice_get (faults p) 0
 
-abbrev pub refused_by : Option TypeError → Result (Unit {0}) TypeError
-refused_by None = Ok tt
-refused_by (Some error) = Err error
+abbrev pub refused_by : Program → Option TypeError → Result Program TypeError
+refused_by p None = Ok p
+refused_by p (Some error) = Err error
 
 -- a program is typed where there is none
-unfoldable pub judged : Program → Result (Unit {0}) TypeError
-judged p = refused_by (first_fault p)
+unfoldable pub judged : Program → Result Program TypeError
+judged p = refused_by p (first_fault p)

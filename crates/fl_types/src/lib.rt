@@ -12,4 +12,4 @@ pub use access::{Access, AccessKind, PathStep};
 pub use choice::{Choice, Choices, Chosen, NameSet};
 pub use increment::{IncrementForm, increment_form};
 pub use sharing::Sharing;
-pub use typed::{TypeError, Typed, check};
+pub use typed::{TypeError, Typed};

@@ -1,10 +1,7 @@
-ghost use Rattle.std.specs.Prelude.{◌≡◌, true};
-ghost use Rattle.fl_base.specs.Finds.{Finds};
-ghost use Rattle.fl_types.specs.declared.typed.TypeError.TheVariants.{Memory as memory};
+ghost use Rattle.std.specs.Prelude.{◌≡◌};
 
 use crate::supported::{is_ring_argument, is_supported};
 use fl_ast::{Name, Program};
-use std::alloc::Global;
 use std::marker::Model;
 use thiserror::Error;
 
@@ -12,9 +9,6 @@ use thiserror::Error;
 /// tree around it that has one; each test of an `if` has that of its `if`.
 #[derive(Debug, Drop, Error)]
 pub enum TypeError {
-    /// The program has something that isn't built yet.
-    #[error("not built")]
-    NotBuilt,
     /// A name or an argument has no declaration.
     #[error("a name isn't declared")]
     Undeclared { line: u32, name: Name },
@@ -82,14 +76,13 @@ pub enum TypeError {
     Memory,
 }
 
-/// A program that was checked. Contracts see it as the program.
+/// A program that is typed. Contracts see it as the program.
 #[derive(Drop)]
 pub struct Typed {
     program: Program,
 }
 
 impl Model for Typed {
-    ghost use Rattle.std.specs.Prelude.{◌≡◌, true};
     ghost use Rattle.std.specs.Coded.{codes};
     ghost use Rattle.fl_ast.specs.declared.stmt.Program.{Program};
     ghost use Rattle.fl_ast.specs.contracts.stmt.Stmt as stmt;
@@ -98,26 +91,37 @@ impl Model for Typed {
 
     ghost coded = { Prim.hlevel (codes, stmt.the_row.coded) };
 
-    ghost use Rattle.fl_types.specs.Supported.{is_supported};
+    ghost use Rattle.fl_types.specs.WellTyped.{IsTyped};
 
     ghost view = { λ t. t.program };
 
-    ghost invariant = { λ t. is_supported t.program ≡ true };
+    ghost invariant = { λ t. IsTyped t.program };
 }
 
 impl Typed {
-    ghost use Rattle.std.specs.Prelude.{map};
-    ghost use Rattle.fl_ast.specs.Tree.{stmt_tree};
-    ghost use Rattle.fl_types.specs.Straight.{are_straight};
-    ghost use Rattle.fl_types.specs.Supported.{is_supported, is_ring_argument as is_ring_argument_lem};
+    ghost use Rattle.fl_types.specs.Supported.{is_supported as is_supported_lem, is_ring_argument as is_ring_argument_lem};
+    ghost use Rattle.fl_types.specs.WellTyped.{IsTyped};
 
-    #[tactic(auto, using(crate::proofs::Straight::supported_straight))]
+    /// A program that is known to be typed.
+    pub fn of(program: Program) -> Typed
+        requires { IsTyped program }
+        ensures { result ≡ program }
+    {
+        Typed { program }
+    }
+
     pub fn program(&self) -> &Program
         ensures program { result.now ≡ self.now }
-        ensures built { is_supported self.now ≡ true }
-        ensures straight { are_straight (map stmt_tree self.now.body) ≡ true }
+        ensures typed { IsTyped self.now }
     {
         &self.program
+    }
+
+    /// Whether the program is a straight line that `run` can answer so far.
+    pub fn is_supported(&self) -> bool
+        ensures { result ≡ is_supported_lem self.now }
+    {
+        is_supported(&self.program)
     }
 
     /// Whether the name is an argument of the ring kind.
@@ -125,19 +129,5 @@ impl Typed {
         ensures { result ≡ is_ring_argument_lem self.now name.now }
     {
         is_ring_argument(&self.program, name)
-    }
-}
-
-ghost use Rattle.fl_types.specs.Checked.{checked};
-
-#[tactic(auto, unfolding(crate::specs::Checked::checked))]
-/// Types a program, which it uses up.
-pub fn check(_alloc: Global, program: Program) -> Result<Typed, TypeError>
-    ensures { Finds (λ t. t) memory (checked program) result }
-{
-    if is_supported(&program) {
-        Ok(Typed { program })
-    } else {
-        Err(TypeError::NotBuilt)
     }
 }

@@ -8,15 +8,15 @@ use Rattle.typing.specs.Views.{Told}
 use Rattle.typing.proofs.Heads.{error, error_none, error_some}
 use Rattle.typing.proofs.Along.{walk_finds}
 
-judged_by : (p : Program) (o : Option Told) → o ≡ first_in_program p → judged p ≡ refused_by (error o)
+judged_by : (p : Program) (o : Option Told) → o ≡ first_in_program p → judged p ≡ refused_by p (error o)
 unfolding judged
-judged_by p o h = ap refused_by (sym (walk_finds p) ∙ ap error (sym h))
+judged_by p o h = ap (refused_by p) (sym (walk_finds p) ∙ ap error (sym h))
 
-pub judged_none : (p : Program) → None ≡ first_in_program p → judged p ≡ Ok tt
-judged_none p h = judged_by p None h ∙ ap refused_by error_none
+pub judged_none : (p : Program) → None ≡ first_in_program p → judged p ≡ Ok p
+judged_none p h = judged_by p None h ∙ ap (refused_by p) error_none
 
 pub judged_some : (p : Program) (t : Told) → Some t ≡ first_in_program p → judged p ≡ Err (error_of t)
-judged_some p t h = judged_by p (Some t) h ∙ ap refused_by (error_some t)
+judged_some p t h = judged_by p (Some t) h ∙ ap (refused_by p) (error_some t)
 
 -- where nothing is told there is no fault
 pub faultless : (p : Program) → None ≡ first_in_program p → first_fault p ≡ None

@@ -1,9 +1,8 @@
 //! Whether a program is typed.
 
-ghost use Rattle.std.specs.Prelude.{◌≡◌, ◌≢◌, IfOk};
+ghost use Rattle.std.specs.Prelude.{◌≡◌, ◌≢◌};
 ghost use Rattle.fl_base.specs.Finds.{Finds};
 ghost use Rattle.fl_ast.specs.Readable.{IsReadable};
-ghost use Rattle.fl_types.specs.WellTyped.{IsTyped};
 ghost use Rattle.fl_types.specs.Rows.{judged};
 ghost use Rattle.fl_types.specs.declared.typed.TypeError.TheVariants.{Memory as memory};
 ghost use Rattle.typing.specs.Errors.{error_by};
@@ -12,7 +11,7 @@ use crate::around::Fault;
 use crate::error::error_of;
 use crate::whole::first_fault;
 use fl_ast::Program;
-use fl_types::TypeError;
+use fl_types::{TypeError, Typed};
 use std::alloc::Global;
 
 fn refusal(alloc: Global, fault: Fault<'_>) -> TypeError
@@ -24,14 +23,13 @@ fn refusal(alloc: Global, fault: Fault<'_>) -> TypeError
     }
 }
 
-/// Refuses a program that isn't typed, by its first fault in textual order. Only the name of a fault takes memory.
-pub fn check(alloc: Global, program: &Program) -> Result<(), TypeError>
-    requires readable { IsReadable program.now }
-    ensures typed { IfOk result (λ u. IsTyped program.now) }
-    ensures judged { Finds (λ u. tt {0}) memory (judged program.now) result }
+/// Types a program, which it uses up, or tells its first fault in textual order. Only the name of a fault takes memory.
+pub fn check(alloc: Global, program: Program) -> Result<Typed, TypeError>
+    requires { IsReadable program }
+    ensures { Finds (λ typed. typed) memory (judged program) result }
 {
-    match first_fault(program) {
-        None => Ok(()),
+    match first_fault(&program) {
+        None => Ok(Typed::of(program)),
         Some(fault) => Err(refusal(alloc, fault)),
     }
 }
