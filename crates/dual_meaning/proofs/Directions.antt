@@ -18,7 +18,6 @@ use Rattle.meaning.specs.Adjoints.{cells_along, tangent_of}
 use Rattle.meaning.specs.Programs.{cells_of, no_pushes, entry_site, entry_cells, meaning, words_after, tangents_after, final_words, final_tangents}
 use Rattle.meaning.specs.Laws.{values_out}
 use Rattle.meaning.proofs.LawProofs.{unseen}
-use Rattle.dual_meaning.specs.declared.statements.RunStop.{RunStop}
 use Rattle.dual_meaning.specs.declared.along.Tangents.{Tangents}
 use Rattle.dual_meaning.specs.Runs.{Ends}
 use Rattle.dual_meaning.specs.Tangents.{IsTangent}
@@ -84,6 +83,9 @@ found_well p q es words direction ws ts end cells found n before after same w t 
     ap (λ (x : Program). meaning (program_tree x) es no_pushes ws ts) same
     ∙ (ap (λ (x : List ℕ). meaning (program_tree p) es no_pushes x ts) w ∙ ap (meaning (program_tree p) es no_pushes words) t) in
     let x = subst (λ (r : Traced TrapAt Cells). Ends (λ (e : Cells). e) r (Ok end) before after) m h in
-    let first : take n cells ≡ take (length (keys_of es)) end = ap (λ (i : ℕ). take i cells) k ∙ ap (take (length (keys_of es))) c in
-    (values_found (program_tree p) es words direction end found.values.items x.0 (v ∙ ap (map word_of) first),
-    tangents_found (program_tree p) es words direction end found.tangents.items x.0 (d ∙ ap (map tangent_of) first), x.1, x.2)
+    let first : take n cells ≡ take (length (keys_of es)) end = ap (λ (i : ℕ). take i cells) k ∙ ap (take (length (keys_of es))) c in (
+      values_found (program_tree p) es words direction end found.values.items x.0 (v ∙ ap (map word_of) first),
+      tangents_found (program_tree p) es words direction end found.tangents.items x.0 (d ∙ ap (map tangent_of) first),
+      x.1,
+      x.2,
+    )

@@ -1,6 +1,6 @@
 -- The cells at the entry, name by name.
-use Rattle.std.specs.Prelude.{◌≡◌, ℕ, zero, suc, ◌+◌, ◌-◌, ◌<◌, ◌≤◌, ℤ, Bool, true, false, if◌then◌else◌, List, [], ◌∷◌, ◌++◌, map, length, take, drop, get_or, slice_get, slice_index, Option, Some, None, refl}
-use Rattle.std.proofs.Common.{ap, sym, ◌∙◌, arith, append_assoc, append-nil, add-one}
+use Rattle.std.specs.Prelude.{◌≡◌, ℕ, zero, suc, ◌+◌, ◌-◌, ◌<◌, ℤ, Bool, true, false, if◌then◌else◌, List, [], ◌∷◌, ◌++◌, map, length, take, drop, get_or, slice_get, slice_index, Option, Some, None, refl}
+use Rattle.std.proofs.Common.{ap, sym, ◌∙◌, arith, append_assoc, add-one}
 use Rattle.std.proofs.lemmas.List.{drop_more}
 use Rattle.fl_ast.specs.declared.kind.Kind.{Kind}
 use Rattle.fl_ast.specs.declared.decl.Decl.{Decl}
@@ -23,11 +23,6 @@ push_one cells cells' whole kind ws ts k next x l e c h =
     ap (λ (z : Cells). z ++ name_cells kind ws ts (k + 1) (next - (k + 1))) c
     ∙ (append_assoc cells (x ∷ []) (name_cells kind ws ts (k + 1) (next - (k + 1)))
     ∙ (ap (λ (y : Option Value). cells ++ y ∷ name_cells kind ws ts (k + 1) (next - (k + 1))) e ∙ (ap (λ (m : ℕ). cells ++ name_cells kind ws ts k m) (sym n) ∙ h)))
-
-pub push_done : (cells whole : Cells) (kind : Option Kind) (ws ts : List ℕ) (k next : ℕ) → next ≤ k → cells ++ name_cells kind ws ts k (next - k) ≡ whole → cells ≡ whole
-push_done cells whole kind ws ts k next l h =
-    let n : next - k ≡ 0 = omega arith in
-    sym (ap (λ (m : ℕ). cells ++ name_cells kind ws ts k m) n ∙ append-nil cells) ∙ h
 
 -- the kind at a shape's slot
 pub kind_found : (ds : List Decl) (es : List Shape) (i : ℕ) (s : Shape) → slice_get es i ≡ Some s → kind_at (kinds_of ds es) i ≡ named_kind ds s.name
@@ -84,9 +79,6 @@ no_cells [] = refl
 no_cells (t ∷ ts) = refl
 
 module _ (site : Site) (args : List (List ℕ)) where
-  kind_for : List ℕ → Option Kind
-  kind_for x = argument_kind args (kind_of site x) x
-
   unset : (o : Option Kind) (t : ℕ) → None ≡ entry_cell o None t
   unset None t = refl
   unset (Some k) t = refl

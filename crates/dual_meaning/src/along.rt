@@ -122,7 +122,14 @@ fn cells_by(
     let _declared = decls.len();
     for (i, shape) in layout.shapes().iter().enumerate() {
         let kind = argument_kind(args, table.kind(i), &shape.name);
-        push_cells(&mut cells, kind, words, tangents, layout.first(i), layout.next(i))?;
+        push_cells(
+            &mut cells,
+            kind,
+            words,
+            tangents,
+            layout.first(i),
+            layout.next(i),
+        )?;
     }
     Ok(cells)
 }
@@ -232,8 +239,10 @@ fn run_along<L: Ledger>(
     run_program(alloc, layout, decls, program.body.as_slice(), cells, steps)
 }
 
-/// The values and the tangents at the end of a program for tangents at its beginning, where names without an entry have
-/// 0. It ticks once for each statement instance.
+/// The values of all places at the end of a program, and their tangents for a direction at its beginning, which has 0
+/// where it has no entry. Arguments alone have words and tangents at the beginning, everything else is unset. It ticks once
+/// for each statement instance. It ends early at a trap, where one statement instance more than 2^24 would begin, and where
+/// memory is wanting.
 pub fn tangent<L: Ledger>(
     alloc: Global,
     typed: &Typed,

@@ -1,7 +1,7 @@
-use Rattle.std.proofs.Common.{◌≡◌, ◌<◌, ◌+◌, ◌++◌, ◌∙◌, ap, length, get_or, take, rules}
+use Rattle.std.proofs.Common.{◌≡◌, ◌<◌, ◌+◌, ◌∙◌, ap, length, get_or, take, rules}
 use Rattle.store_core.specs.Keys.{keys_of}
 use Rattle.resolved.specs.SlotTables.{kind_at}
-use Rattle.dual_meaning.specs.Tangents.{name_cells, argument_kind}
+use Rattle.dual_meaning.specs.Tangents.{argument_kind}
 use Rattle.dual_meaning.proofs.Entering.{push_name}
 use Rattle.dual_meaning.proofs.along.cells_by.Goals as goal
 

@@ -1,6 +1,5 @@
-use Rattle.std.proofs.Common.{◌≡◌, ◌-◌, ◌++◌, ◌∷◌, [], rules}
-use Rattle.dual_meaning.specs.Tangents.{name_cells}
-use Rattle.dual_meaning.proofs.Entering.{push_one, push_done}
+use Rattle.std.proofs.Common.{◌≡◌, ◌++◌, ◌∷◌, [], rules}
+use Rattle.dual_meaning.proofs.Entering.{push_one}
 use Rattle.dual_meaning.proofs.along.push_cells.Goals as goal
 
 pub loop-k-preserved : goal.loop-k-preserved
