@@ -1,4 +1,5 @@
-ghost use Rattle.std.specs.Prelude.{◌≡◌, IfOk};
+ghost use Rattle.std.specs.Prelude.{◌≡◌, true, IfOk};
+ghost use Rattle.fl_types.specs.Supported.{is_supported};
 ghost use Rattle.store_core.specs.Places.{shapes_of};
 ghost use Rattle.one_thread.specs.Bodies.{IsBodyOf};
 
@@ -17,6 +18,7 @@ pub struct Body {
 
 /// The names of a program that is supported, all of which have places.
 fn table_of(alloc: Global, typed: &Typed, layout: &Layout, args: &Args) -> Result<SlotTable, Memory>
+    requires supported { is_supported typed.now ≡ true }
     requires laid { layout.now ≡ shapes_of typed.now args.now.entries }
     ensures { IfOk result (λ table. table.0 ≡ layout.now) }
 {
@@ -36,6 +38,7 @@ fn stmts_of(
     args: &Args,
     table: &SlotTable,
 ) -> Result<Items<ResolvedStmt>, Memory>
+    requires supported { is_supported typed.now ≡ true }
     requires laid { table.now.0 ≡ shapes_of typed.now args.now.entries }
     ensures { IfOk result (λ stmts. IsBodyOf typed.now table.now.0 table.now stmts) }
 {
@@ -49,6 +52,7 @@ fn stmts_of(
 
 /// The body of a program with this layout.
 pub fn body_of(alloc: Global, typed: &Typed, layout: &Layout, args: &Args) -> Result<Body, Memory>
+    requires supported { is_supported typed.now ≡ true }
     requires laid { layout.now ≡ shapes_of typed.now args.now.entries }
     ensures { IfOk result (λ body. IsBodyOf typed.now layout.now body.table body.stmts) }
 {

@@ -1,6 +1,7 @@
 ghost use Rattle.std.specs.Prelude.{◌≡◌, ◌+◌, true, length, map, IfOk, OnOk};
 ghost use Rattle.fl_ast.specs.Tree.{program_tree};
 ghost use Rattle.fl_types.specs.Straight.{are_straight};
+ghost use Rattle.fl_types.specs.Supported.{is_supported};
 ghost use Rattle.store_core.specs.Keys.{keys_of};
 ghost use Rattle.store_core.specs.Places.{are_scalars, shapes_of};
 ghost use Rattle.store_core.specs.Filled.{place_words};
@@ -63,6 +64,7 @@ pub fn sweep<L: Ledger>(
     weights: &Weights,
     steps: &mut Steps<L>,
 ) -> Result<Swept, Memory>
+    requires supported { is_supported typed.now ≡ true }
     requires laid { layout.now ≡ shapes_of typed.now args.now.entries }
     ensures values { IfOk result (λ s. s.values.items
         ≡ final_words (program_tree typed.now) layout.now (place_words layout.now args.now.entries)) }

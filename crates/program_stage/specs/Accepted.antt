@@ -4,7 +4,6 @@ use Rattle.tokens.specs.declared.Token.{Token}
 use Rattle.fl_ast.specs.declared.stmt.Program.{Program}
 use Rattle.fl_lexer.specs.Reading.{lexed}
 use Rattle.fl_parser.specs.Parsed.{parsed}
-use Rattle.fl_types.specs.Checked.{checked}
 use Rattle.fl_types.specs.Rows.{judged}
 
 -- the text is accepted, as this program
@@ -13,5 +12,4 @@ pub record IsProgramOf (text : List ℕ) (program : Program) : Type 0 where
   pub tree : Program
   pub lexes : lexed text ≡ Ok tokens
   pub parses : parsed text tokens ≡ Ok tree
-  pub judges : judged tree ≡ Ok tt
-  pub checks : checked tree ≡ Ok program
+  pub judges : judged tree ≡ Ok program

@@ -1,15 +1,13 @@
--- What is said of a program that isn't typed, or isn't built yet.
+-- What is said of a program that isn't typed.
 use Rattle.std.specs.Prelude.{◌++◌, codes, None}
 use Rattle.ending.specs.Plan.{Plan, Saying, or_say}
 use Rattle.fl_ast.specs.declared.stmt.Program.{Program}
 use Rattle.fl_types.specs.declared.typed.TypeError.{TypeError}
-use Rattle.fl_types.specs.declared.typed.TypeError.TheVariants.{NotBuilt, Undeclared, Doubled, ReservedSuffix, LocalArray, Rank, LiteralRange, KindClash, DataDivision, DataToIndex, IntentIn, SelfSubscript, LoopVarUse, PrivateUse, ReductionUse, AtomicForm, NotShareable, Unlisted, MixedKinds, CollapseForm, Memory}
-use Rattle.fl_types.specs.Checked.{checked}
+use Rattle.fl_types.specs.declared.typed.TypeError.TheVariants.{Undeclared, Doubled, ReservedSuffix, LocalArray, Rank, LiteralRange, KindClash, DataDivision, DataToIndex, IntentIn, SelfSubscript, LoopVarUse, PrivateUse, ReductionUse, AtomicForm, NotShareable, Unlisted, MixedKinds, CollapseForm, Memory}
 use Rattle.fl_types.specs.Rows.{judged}
-use Rattle.program_stage.specs.Lines.{not_built, refused_line}
+use Rattle.program_stage.specs.Lines.{refused_line}
 
 abbrev pub say_type : TypeError → Saying
-say_type NotBuilt = not_built
 say_type (Undeclared line x) = refused_line line (codes "undeclared " ++ x)
 say_type (Doubled line x) = refused_line line (codes "declared twice " ++ x)
 say_type (ReservedSuffix line x) = refused_line line (codes "reserved name " ++ x)
@@ -31,14 +29,6 @@ say_type (MixedKinds line x) = refused_line line (codes "mixed data kinds " ++ x
 say_type (CollapseForm line) = refused_line line (codes "collapse form")
 say_type Memory = None
 
--- the program has no fault
-unfoldable pub judged_stage : Program → (Unit {0} → Plan) → Plan
-judged_stage program rest = or_say say_type (judged program) rest
-
--- all of the program is built
-unfoldable pub built_stage : Program → (Program → Plan) → Plan
-built_stage program rest = or_say say_type (checked program) rest
-
 -- the typed program
 unfoldable pub typed_stage : Program → (Program → Plan) → Plan
-typed_stage program rest = judged_stage program (λ _. built_stage program rest)
+typed_stage program rest = or_say say_type (judged program) rest

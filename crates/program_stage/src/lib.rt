@@ -9,5 +9,5 @@ mod syntax;
 mod typing;
 mod unbuilt;
 
-pub use program::{load_program, load_subject};
+pub use program::{load_program, load_subject, load_supported};
 pub use unbuilt::not_built;

@@ -1,20 +1,19 @@
 ghost use Rattle.ending.specs.Stage.{IsPart, IsSaying};
 ghost use Rattle.fl_ast.specs.Readable.{IsReadable};
-ghost use Rattle.program_stage.specs.Typing.{say_type, judged_stage, built_stage, typed_stage};
+ghost use Rattle.program_stage.specs.Typing.{say_type, typed_stage};
 
 use crate::line::{refused_line, refused_word};
-use crate::unbuilt::not_built;
 use ending::Early;
 use fl_ast::Program;
 use fl_types::{TypeError, Typed};
 use std::alloc::Global;
+use typing::check;
 
-/// What is said of a program that isn't typed, or isn't built yet.
+/// What is said of a program that isn't typed.
 fn type_refused(alloc: Global, error: TypeError) -> Early
     ensures { IsSaying (say_type error) result }
 {
     match error {
-        TypeError::NotBuilt => not_built(alloc),
         TypeError::Undeclared { line, name } => refused_word(alloc, line, b"undeclared ", &name),
         TypeError::Doubled { line, name } => refused_word(alloc, line, b"declared twice ", &name),
         TypeError::ReservedSuffix { line, name } => refused_word(alloc, line, b"reserved name ", &name),
@@ -38,29 +37,13 @@ fn type_refused(alloc: Global, error: TypeError) -> Early
     }
 }
 
-fn judge(alloc: Global, program: &Program) -> Result<(), Early>
-    requires { IsReadable program.now }
-    ensures { IsPart (λ _. tt {0}) (judged_stage program.now) result }
-{
-    match typing::check(alloc, program) {
-        Ok(()) => Ok(()),
-        Err(error) => Err(type_refused(alloc, error)),
-    }
-}
-
-fn built_of(alloc: Global, program: Program) -> Result<Typed, Early>
-    ensures { IsPart (λ typed. typed) (built_stage program) result }
-{
-    match fl_types::check(alloc, program) {
-        Ok(typed) => Ok(typed),
-        Err(error) => Err(type_refused(alloc, error)),
-    }
-}
-
+/// The typed program of a tree.
 pub(crate) fn typed_of(alloc: Global, program: Program) -> Result<Typed, Early>
     requires { IsReadable program }
     ensures { IsPart (λ typed. typed) (typed_stage program) result }
 {
-    judge(alloc, &program)?;
-    built_of(alloc, program)
+    match check(alloc, program) {
+        Ok(typed) => Ok(typed),
+        Err(error) => Err(type_refused(alloc, error)),
+    }
 }

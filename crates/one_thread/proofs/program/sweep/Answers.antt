@@ -8,22 +8,22 @@ use Rattle.one_thread.proofs.program.sweep.Goals as goal
 
 pub there_and_back-requires-clause-scalars : goal.there_and_back-requires-clause-scalars
 there_and_back-requires-clause-scalars g c =
-    ap are_scalars (c.in_ok-body.ensures.shapes_are ∙ c.requires.laid) ∙ (names_are_scalars c.args.typed.now c.args.args.now.entries c.program-program.ensures.built).0
+    ap are_scalars (c.in_ok-body.ensures.shapes_are ∙ c.requires.laid) ∙ (names_are_scalars c.args.typed.now c.args.args.now.entries c.requires.supported).0
 
 pub there_and_back-requires-clause-long : goal.there_and_back-requires-clause-long
 there_and_back-requires-clause-long g c =
-    places_long c.args.typed.now c.args.args.now.entries c.args.layout.now c.in_ok-body.body.table c.in_ok-body.body.stmts c.program-program.ensures.built c.requires.laid c.in_ok-body.ensures c.in_ok-values.values.items c.as_slice.result.now c.in_ok-values.ensures
+    places_long c.args.typed.now c.args.args.now.entries c.args.layout.now c.in_ok-body.body.table c.in_ok-body.body.stmts c.requires.supported c.requires.laid c.in_ok-body.ensures c.in_ok-values.values.items c.as_slice.result.now c.in_ok-values.ensures
 
 pub there_and_back-requires-clause-wide : goal.there_and_back-requires-clause-wide
 there_and_back-requires-clause-wide g c =
-    places_long c.args.typed.now c.args.args.now.entries c.args.layout.now c.in_ok-body.body.table c.in_ok-body.body.stmts c.program-program.ensures.built c.requires.laid c.in_ok-body.ensures c.in_ok-adjoints.adjoints.items c.as_slice-2.result.now c.in_ok-adjoints.ensures
+    places_long c.args.typed.now c.args.args.now.entries c.args.layout.now c.in_ok-body.body.table c.in_ok-body.body.stmts c.requires.supported c.requires.laid c.in_ok-body.ensures c.in_ok-adjoints.adjoints.items c.as_slice-2.result.now c.in_ok-adjoints.ensures
 
 pub returns-clause-values : goal.returns-clause-values
 returns-clause-values g c =
     let b = subst (λ ss. IsBodyOf c.args.typed.now c.args.layout.now c.in_ok-body.body.table ss) (sym c.as_slice-3.ensures) c.in_ok-body.ensures in
     let v = c.in_ok-values.ensures ∙ ap (place_words c.args.layout.now) c.as_slice.ensures in
     if_ok _ _ c.there_and_back.result
-    (λ s e. e ∙ values_are c.args.typed.now c.args.args.now.entries c.args.layout.now c.in_ok-body.body.table c.as_slice-3.result.now c.program-program.ensures.built c.requires.laid b c.in_ok-values.values.items v)
+    (λ s e. e ∙ values_are c.args.typed.now c.args.args.now.entries c.args.layout.now c.in_ok-body.body.table c.as_slice-3.result.now c.requires.supported c.requires.laid b c.in_ok-values.values.items v)
     c.there_and_back.ensures.values
 
 pub returns-clause-adjoints : goal.returns-clause-adjoints
@@ -32,7 +32,7 @@ returns-clause-adjoints g c =
     let v = c.in_ok-values.ensures ∙ ap (place_words c.args.layout.now) c.as_slice.ensures in
     let w = c.in_ok-adjoints.ensures ∙ ap (place_words c.args.layout.now) c.as_slice-2.ensures in
     if_ok_both _ _ _ c.there_and_back.result
-    (λ s e small. adjoints_are c.args.typed.now c.args.args.now.entries c.args.layout.now c.in_ok-body.body.table c.as_slice-3.result.now c.program-program.ensures.built c.requires.laid b
+    (λ s e small. adjoints_are c.args.typed.now c.args.args.now.entries c.args.layout.now c.in_ok-body.body.table c.as_slice-3.result.now c.requires.supported c.requires.laid b
     c.in_ok-values.values.items c.in_ok-adjoints.adjoints.items s.adjoints.items c.args.weights.now.entries v w e small)
     c.there_and_back.ensures.adjoints c.there_and_back.ensures.words
 
@@ -40,5 +40,5 @@ pub returns-clause-ticks : goal.returns-clause-ticks
 returns-clause-ticks g c =
     let b = subst (λ ss. IsBodyOf c.args.typed.now c.args.layout.now c.in_ok-body.body.table ss) (sym c.as_slice-3.ensures) c.in_ok-body.ensures in
     on_ok c.there_and_back.result
-    (λ e. e ∙ ap (λ (n : ℕ). c.args.steps.now + n) (body_long c.args.typed.now c.args.args.now.entries c.args.layout.now c.in_ok-body.body.table c.as_slice-3.result.now c.program-program.ensures.built c.requires.laid b))
+    (λ e. e ∙ ap (λ (n : ℕ). c.args.steps.now + n) (body_long c.args.typed.now c.args.args.now.entries c.args.layout.now c.in_ok-body.body.table c.as_slice-3.result.now c.requires.supported c.requires.laid b))
     c.there_and_back.ensures.ticks

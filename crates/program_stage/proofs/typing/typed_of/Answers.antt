@@ -1,10 +1,11 @@
-use Rattle.ending.proofs.Follow.{goes_in, ends_in}
+use Rattle.std.proofs.Common.{refl}
+use Rattle.ending.proofs.Follow.{finds, refuses}
 use Rattle.program_stage.proofs.typing.typed_of.Goals as goal
 
-pub returns-in_err-judge : goal.returns-in_err-judge
+pub returns-in-Ok : goal.returns-in-Ok
 unfolding Rattle.program_stage.specs.Typing.typed_stage
-returns-in_err-judge c = ends_in c.in_err-judge.ensures c.from_residual.ensures
+returns-in-Ok c = finds _ _ c.in-Ok.ensures
 
-pub returns : goal.returns
+pub returns-in-Err : goal.returns-in-Err
 unfolding Rattle.program_stage.specs.Typing.typed_stage
-returns c = goes_in c.in_ok-judge.ensures c.built_of.ensures
+returns-in-Err c = refuses _ _ _ _ refl c.in-Err.ensures c.type_refused.ensures
