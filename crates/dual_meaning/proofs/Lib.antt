@@ -10,3 +10,5 @@ pub mod Quotients
 pub mod Nesting
 pub mod Placed
 pub mod Ending
+pub mod Entering
+pub mod Directions

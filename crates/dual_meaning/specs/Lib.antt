@@ -2,3 +2,4 @@ pub mod Answers
 pub mod Counted
 pub mod Running
 pub mod Runs
+pub mod Tangents

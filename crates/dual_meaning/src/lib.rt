@@ -1,6 +1,7 @@
 //! Programs run over duals, in order on one thread, names being looked up once.
 #![tactic(auto)]
 
+mod along;
 mod assignment;
 mod bounds;
 mod evaluator;
@@ -9,6 +10,7 @@ mod program;
 mod rounds;
 mod statements;
 
+pub use along::{Tangents, tangent};
 pub use evaluator::{EvalStop, evaluate, holds};
 pub use program::run_program;
 pub use rounds::Round;

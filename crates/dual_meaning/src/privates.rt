@@ -12,7 +12,7 @@ use fl_ast::{Directive, Memory, Name};
 use resolved::{ResolvedArm, ResolvedStmt, SlotTable};
 use std::alloc::Global;
 
-fn has_name(names: &[Name], name: &Name) -> bool
+pub(crate) fn has_name(names: &[Name], name: &Name) -> bool
     ensures { result ≡ has_name_lem name.now names.now }
 {
     for other in names {
