@@ -11,9 +11,10 @@ use Rattle.serde_json.specs.View.{items_of}
 use Rattle.serde_json.specs.Written.{has_float, items_have_float, members_have_float}
 use Rattle.fl_types.specs.declared.choice.Chosen.{Chosen}
 use Rattle.store_core.specs.declared.values.Entry.{Entry}
+use Rattle.store_core.specs.declared.values.Weights.{Weights}
 use Rattle.data_io.specs.declared.answer.RaceText.{RaceText}
 use Rattle.data_io.specs.declared.answer.Answer.{Answer}
-use Rattle.data_io.specs.Written.{signed, shown, text_of, put_all, weights, choices_of, race_of, with_race, put_race_of, members}
+use Rattle.data_io.specs.Written.{signed, shown, text_of, put_all, weights, choices_of, race_of, with_race, put_race_of, members, tangent_members}
 
 integer : (z : ℤ) → is_float (of_integer z) ≡ false
 integer (pos n) = refl
@@ -66,3 +67,8 @@ pub race_put : (r : Option (Option RaceText)) (n x c v : Data)
     ≡ member (codes "adds") n (member (codes "adjoint") x (member (codes "choices") c (with_race r (member (codes "value") v no_members))))
 race_put None n x c v = refl
 race_put (Some r) n x c v = refl
+
+pub tangent_whole : (t v : Weights) → members_have_float (tangent_members t v) ≡ false
+tangent_whole t v =
+    let value : members_have_float (member (codes "value") (weights v.entries) no_members) ≡ false = rw (put_all_whole no_members v.entries refl) refl in
+    rw (put_all_whole no_members t.entries refl) value

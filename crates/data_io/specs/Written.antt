@@ -11,6 +11,7 @@ use Rattle.fl_types.specs.declared.choice.Choice.{Choice}
 use Rattle.fl_types.specs.declared.choice.Choice.TheVariants.{Shared, Atomic, Reduction}
 use Rattle.fl_types.specs.declared.choice.Chosen.{Chosen}
 use Rattle.store_core.specs.declared.values.Entry.{Entry}
+use Rattle.store_core.specs.declared.values.Weights.{Weights}
 use Rattle.data_io.specs.declared.answer.RaceText.{RaceText}
 use Rattle.data_io.specs.declared.answer.Answer.{Answer}
 
@@ -65,3 +66,7 @@ abbrev pub members : Answer → Members
 members a =
     member (codes "adds") (number (unsigned a.adds)) (member (codes "adjoint") (weights a.adjoint.entries) (member (codes "choices") (choices_of a.choices.entries)
     (with_race a.race (member (codes "value") (weights a.value.entries) no_members))))
+
+-- the members of an answer in a direction
+abbrev pub tangent_members : (tangent value : Weights) → Members
+tangent_members tangent value = member (codes "tangent") (weights tangent.entries) (member (codes "value") (weights value.entries) no_members)

@@ -2,7 +2,7 @@ ghost use Rattle.std.specs.Prelude.{false, ◌≡◌, IfOk, OnOk};
 ghost use Rattle.serde_json.specs.View.{view, members_view};
 ghost use Rattle.serde_json.specs.Data.{no_members, object};
 ghost use Rattle.serde_json.specs.Written.{compact_text, members_have_float};
-ghost use Rattle.data_io.specs.Written.{signed, shown, put_all, text_of, word_of, choice_of, choices_of, race_of, put_race_of, members};
+ghost use Rattle.data_io.specs.Written.{signed, shown, put_all, text_of, word_of, choice_of, choices_of, race_of, put_race_of, members, tangent_members};
 
 use fl_base::{Memory, Name};
 use fl_types::{Choice, Choices, Chosen};
@@ -171,4 +171,27 @@ pub fn write_answer(alloc: Global, answer: &Answer) -> Result<Vec<u8>, Memory>
     ensures { IfOk result (λ bytes. bytes.items ≡ compact_text (object (members answer.now))) }
 {
     object_bytes(alloc, answer_members(alloc, answer)?)
+}
+
+/// The members of an answer in a direction.
+fn direction_members(
+    alloc: Global,
+    tangent: &Weights,
+    value: &Weights,
+) -> Result<Map<String, Value>, Memory>
+    ensures { IfOk result (λ m. members_view m.entries ≡ tangent_members tangent.now value.now) }
+{
+    let mut members = Map::new(alloc);
+    let tangent = show_all(alloc, tangent.entries.as_slice())?;
+    serde_json::put(&mut members, alloc, "tangent", Value::Object(tangent))?;
+    let value = show_all(alloc, value.entries.as_slice())?;
+    serde_json::put(&mut members, alloc, "value", Value::Object(value))?;
+    Ok(members)
+}
+
+/// Tangents and values as compact JSON, as `{"tangent":{"x":1,"y":13},"value":{"x":5,"y":40}}`. No line feed ends it.
+pub fn write_tangent(alloc: Global, tangent: &Weights, value: &Weights) -> Result<Vec<u8>, Memory>
+    ensures { IfOk result (λ bytes. bytes.items ≡ compact_text (object (tangent_members tangent.now value.now))) }
+{
+    object_bytes(alloc, direction_members(alloc, tangent, value)?)
 }

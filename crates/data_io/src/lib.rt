@@ -7,7 +7,7 @@ mod direction;
 mod number;
 mod read;
 
-pub use answer::{Answer, RaceText, write_answer};
+pub use answer::{Answer, RaceText, write_answer, write_tangent};
 pub use data::DataError;
 pub use direction::read_direction;
 pub use read::{read_args, read_seed};

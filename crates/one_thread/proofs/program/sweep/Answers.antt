@@ -1,4 +1,6 @@
 use Rattle.std.proofs.Common.{ap, sym, ◌∙◌, ◌+◌, subst, ℕ}
+use Rattle.fl_types.specs.Straight.{are_straight}
+use Rattle.fl_types.proofs.Straight.{supported_straight}
 use Rattle.store_core.specs.Places.{are_scalars}
 use Rattle.store_core.specs.Filled.{place_words}
 use Rattle.adjoint_meaning.proofs.Whole.{names_are_scalars}
@@ -17,6 +19,11 @@ there_and_back-requires-clause-long g c =
 pub there_and_back-requires-clause-wide : goal.there_and_back-requires-clause-wide
 there_and_back-requires-clause-wide g c =
     places_long c.args.typed.now c.args.args.now.entries c.args.layout.now c.in_ok-body.body.table c.in_ok-body.body.stmts c.requires.supported c.requires.laid c.in_ok-body.ensures c.in_ok-adjoints.adjoints.items c.as_slice-2.result.now c.in_ok-adjoints.ensures
+
+pub there_and_back-requires-clause-straight : goal.there_and_back-requires-clause-straight
+there_and_back-requires-clause-straight g c =
+    let b = subst (λ ss. IsBodyOf c.args.typed.now c.args.layout.now c.in_ok-body.body.table ss) (sym c.as_slice-3.ensures) c.in_ok-body.ensures in
+    ap are_straight b.trees ∙ supported_straight c.args.typed.now c.requires.supported
 
 pub returns-clause-values : goal.returns-clause-values
 returns-clause-values g c =
