@@ -10,7 +10,7 @@ use Rattle.ending.proofs.Done.{said_undone, answer_done}
 use Rattle.formad_words.specs.declared.words.Subject.{Subject}
 use Rattle.formad_words.specs.declared.words.Replay.{Replay}
 use Rattle.formad_words.specs.declared.words.Request.{Request}
-use Rattle.program_stage.proofs.ProgramDone.{program_done, subject_done}
+use Rattle.program_stage.proofs.ProgramDone.{program_done, subject_done, supported_subject_done}
 use Rattle.data_stages.proofs.DataDone.{args_done, seed_done, unread_undone, certificate_done, layout_done}
 use Rattle.store_core.specs.Places.{shapes_of}
 use Rattle.commands.specs.declared.inputs.Inputs.{Inputs}
@@ -24,8 +24,8 @@ pub inputs_done : {files : Files} (request : Request) (rest : Inputs → Plan) {
     (inputs : Inputs) × AreInputs files request inputs × LeadsTo files (rest inputs) status text
 unfolding inputs_stage data_stage
 inputs_done request rest c h =
-    let subject = subject_done request.program request.of request.wrt _ c h in
-    let args = args_done request.data subject.0 _ subject.2 h in
+    let subject = supported_subject_done request.program request.of request.wrt _ c h in
+    let args = args_done request.data subject.0 _ subject.3 h in
     let seed = seed_done request.seed subject.0 args.1 request.of _ args.4 h in
     let placed = certificate_done request.certificate _ seed.4 h in
     let last = layout_done subject.0 args.1 _ placed h in (
@@ -36,6 +36,7 @@ inputs_done request rest c h =
         seed = seed.0;
         program_file = subject.1.found;
         accepted = subject.1.accepted;
+        supported = subject.2;
         dependent = subject.1.dependent;
         independent = subject.1.independent;
         data_file = args.2;

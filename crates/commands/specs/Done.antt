@@ -2,7 +2,7 @@
 use Rattle.std.specs.Prelude.{ℕ, ◌+◌, ◌≡◌, true, List, length, Option, Some, Ok}
 use Rattle.std.specs.List.{list_all}
 use Rattle.outside.specs.States.{Files}
-use Rattle.fl_types.specs.Supported.{is_ring_argument}
+use Rattle.fl_types.specs.Supported.{is_ring_argument, is_supported}
 use Rattle.store_core.specs.Places.{shapes_of}
 use Rattle.program_stage.specs.Accepted.{IsProgramOf}
 use Rattle.data_stages.specs.Files.{args_in, seed_in}
@@ -12,7 +12,7 @@ use Rattle.formad_words.specs.declared.words.Words.TheVariants as words
 use Rattle.commands.specs.declared.inputs.Inputs.{Inputs}
 use Rattle.commands.specs.Runs.{answer_text}
 
--- the files of a run give these inputs: an accepted program whose arguments the names are, its arguments and the weights, and the
+-- the files of a run give these inputs: an accepted program that can be run so far and whose arguments the names are, its arguments and the weights, and the
 -- places of its names
 pub record AreInputs (files : Files) (request : Request) (inputs : Inputs) : Type 0 where
   pub source : List ℕ
@@ -20,6 +20,7 @@ pub record AreInputs (files : Files) (request : Request) (inputs : Inputs) : Typ
   pub seed : List ℕ
   pub program_file : files request.program ≡ Some source
   pub accepted : IsProgramOf source inputs.typed
+  pub supported : is_supported inputs.typed ≡ true
   pub dependent : list_all (is_ring_argument inputs.typed) request.of ≡ true
   pub independent : list_all (is_ring_argument inputs.typed) request.wrt ≡ true
   pub data_file : files request.data ≡ Some bytes

@@ -5,7 +5,7 @@ use Rattle.fl_ast.specs.declared.stmt.Program.{Program}
 use Rattle.store_core.specs.declared.layout.Shape.{Shape}
 use Rattle.store_core.specs.declared.values.Args.{Args}
 use Rattle.formad_words.specs.declared.words.Request.{Request}
-use Rattle.program_stage.specs.Programs.{subject_stage}
+use Rattle.program_stage.specs.Programs.{supported_subject}
 use Rattle.data_stages.specs.Files.{args_stage, seed_stage}
 use Rattle.data_stages.specs.Later.{certificate_stage}
 use Rattle.data_stages.specs.Layouts.{layout_stage}
@@ -21,7 +21,7 @@ data_stage request program args rest =
 -- the program and its names, the data file, the seed file, the certificate, the number of places
 unfoldable pub inputs_stage : Request → (Inputs → Plan) → Plan
 inputs_stage request rest =
-    subject_stage request.program request.of request.wrt (λ program.
+    supported_subject request.program request.of request.wrt (λ program.
     args_stage request.data program (λ args.
     seed_stage request.seed program args request.of (λ weights.
     data_stage request program args (λ layout.

@@ -1,4 +1,5 @@
-ghost use Rattle.std.specs.Prelude.{◌≡◌, ◌+◌, IfOk, OnOk, length};
+ghost use Rattle.std.specs.Prelude.{◌≡◌, ◌+◌, true, IfOk, OnOk, length};
+ghost use Rattle.fl_types.specs.Supported.{is_supported};
 ghost use Rattle.store_core.specs.Keys.{keys_of};
 ghost use Rattle.store_core.specs.Places.{shapes_of};
 ghost use Rattle.answers.specs.Runs.{shown_at, values_of, adjoints_of, run_answer, text_of};
@@ -23,10 +24,10 @@ fn shown(
     words: &[u64],
     names: &[Name],
 ) -> Result<Weights, Memory>
-    requires { length words.now ≡ length (keys_of layout.now) }
+    requires supported { is_supported typed.now ≡ true }
+    requires long { length words.now ≡ length (keys_of layout.now) }
     ensures { IfOk result (λ weights. weights ≡ shown_at typed.now layout.now words.now names.now) }
 {
-    let _program = typed.program();
     let entries = layout.entries(alloc, words, names)?;
     Ok(Weights { entries })
 }
@@ -38,6 +39,7 @@ fn answer_of(
     inputs: &Inputs,
     swept: &Swept,
 ) -> Result<Answer, Memory>
+    requires supported { is_supported inputs.now.typed ≡ true }
     requires long { length swept.now.values.items ≡ length (keys_of inputs.now.layout) }
     requires wide { length swept.now.adjoints.items ≡ length (keys_of inputs.now.layout) }
     requires values { swept.now.values.items ≡ values_of inputs.now.typed inputs.now.layout inputs.now.args }
@@ -82,11 +84,11 @@ pub(crate) fn answer<L: Ledger>(
     inputs: &Inputs,
     steps: &mut Steps<L>,
 ) -> Result<Vec<u8>, Memory>
+    requires supported { is_supported inputs.now.typed ≡ true }
     requires laid { inputs.now.layout ≡ shapes_of inputs.now.typed inputs.now.args.entries }
     ensures text { IfOk result (λ text. text.items ≡ answer_text request.now inputs.now) }
     ensures ticks { OnOk result (steps.new ≡ steps.old + length inputs.now.typed.body) }
 {
-    let _program = inputs.typed.program();
     let swept = sweep(
         alloc,
         &inputs.typed,

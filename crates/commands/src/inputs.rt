@@ -1,5 +1,6 @@
-ghost use Rattle.std.specs.Prelude.{◌≡◌, IfOk};
+ghost use Rattle.std.specs.Prelude.{◌≡◌, true, IfOk};
 ghost use Rattle.ending.specs.Stage.{IsStage};
+ghost use Rattle.fl_types.specs.Supported.{is_supported};
 ghost use Rattle.store_core.specs.Places.{shapes_of};
 ghost use Rattle.commands.specs.Runs.{data_stage, inputs_stage};
 
@@ -8,7 +9,7 @@ use ending::Early;
 use fl_types::Typed;
 use formad_words::Request;
 use outside::Folder;
-use program_stage::load_subject;
+use program_stage::load_supported;
 use std::alloc::Global;
 use store_core::{Args, Layout, Weights};
 
@@ -45,9 +46,10 @@ pub(crate) fn prepare<F: Folder>(
 ) -> Result<Inputs, Early>
     ensures stage { IsStage (λ inputs. inputs) (F.state folder.old) (F.state folder.new) (inputs_stage request.now) result }
     ensures laid { IfOk result (λ inputs. inputs.layout ≡ shapes_of inputs.typed inputs.args.entries) }
+    ensures supported { IfOk result (λ inputs. is_supported inputs.typed ≡ true) }
 {
     let of = request.of.as_slice();
-    let typed = load_subject(alloc, folder, &request.program, of, request.wrt.as_slice())?;
+    let typed = load_supported(alloc, folder, &request.program, of, request.wrt.as_slice())?;
     let args = load_args(alloc, folder, &request.data, &typed)?;
     let weights = load_seed(alloc, folder, &request.seed, &typed, &args, of)?;
     let layout = placed(alloc, folder, request, &typed, &args)?;

@@ -11,10 +11,11 @@ use Rattle.store_core.specs.declared.layout.LayoutError.{LayoutError}
 use Rattle.store_core.specs.declared.layout.LayoutError.TheVariants.{TooManyPlaces}
 use Rattle.store_core.specs.declared.values.Args.{Args}
 use Rattle.store_core.specs.declared.values.Weights.{Weights}
+use Rattle.store_core.specs.declared.values.Direction.{Direction}
 use Rattle.store_core.specs.Keys.{keys_of}
 use Rattle.store_core.specs.Places.{shapes_of}
 use Rattle.data_stages.specs.Faults.{say_data}
-use Rattle.data_stages.specs.Files.{args_in, seed_in, args_part, seed_part, args_stage, seed_stage}
+use Rattle.data_stages.specs.Files.{args_in, seed_in, direction_in, args_part, seed_part, direction_part, args_stage, seed_stage, direction_stage}
 use Rattle.data_stages.specs.Later.{unread_stage, certificate_stage}
 use Rattle.data_stages.specs.Layouts.{laid_out, say_layout, layout_stage}
 
@@ -34,6 +35,15 @@ seed_done file program args of rest c h =
     let found = file_done c h in
     let weights = part_done (say_data (codes "seed")) (seed_in program args of found.0) rest found.2 h in
     (found.0, weights.0, found.1, weights.1, weights.2)
+
+pub direction_done : {files : Files} (file : List ℕ) (program : Program) (args : Args) (rest : Direction → Plan) {status : Status} {text : List ℕ} →
+    LeadsTo files (direction_stage file program args rest) status text → status ≡ Done →
+    (bytes : List ℕ) × (direction : Direction) × (files file ≡ Some bytes) × (direction_in program args bytes ≡ Ok direction) × LeadsTo files (rest direction) status text
+unfolding direction_stage direction_part
+direction_done file program args rest c h =
+    let found = file_done c h in
+    let direction = part_done (say_data (codes "direction")) (direction_in program args found.0) rest found.2 h in
+    (found.0, direction.0, found.1, direction.1, direction.2)
 
 -- a file that no part reads ends its command
 pub unread_undone : {files : Files} (file : List ℕ) (limit : ℕ) (over : List ℕ) (rest : Unit {0} → Plan) {status : Status} {text : List ℕ} →

@@ -1,5 +1,5 @@
 -- What the files give, from what their readers promise.
-use Rattle.std.proofs.Common.{◌≡◌, ◌≢◌, ℕ, ◌≤◌, ◌<◌, ◌^◌, Bool, true, false, nat_le, if◌then◌else◌, List, [], ◌∷◌, length, Option, Some, None, Result, Ok, Err, slice_get, refl, ap, sym, subst, ◌∙◌, arith}
+use Rattle.std.proofs.Common.{◌≡◌, ◌≢◌, ℕ, ◌≤◌, ◌<◌, ◌^◌, Bool, true, false, nat_le, if◌then◌else◌, List, [], ◌∷◌, length, Option, Some, None, Result, Ok, Err, IfOk, slice_get, refl, ap, sym, subst, ◌∙◌, arith}
 use Rattle.std.proofs.lemmas.Bool.Decides.{nat_tests}
 use Rattle.std.specs.Str.{IsUtf8, is_utf8}
 use Rattle.std.proofs.lemmas.Str.{IsUtf8-from_is_utf8, is_utf8-from_IsUtf8}
@@ -11,12 +11,14 @@ use Rattle.store_core.specs.declared.layout.LayoutError.{LayoutError}
 use Rattle.store_core.specs.declared.layout.LayoutError.TheVariants as laying
 use Rattle.store_core.specs.declared.values.Args.{Args}
 use Rattle.store_core.specs.declared.values.Weights.{Weights}
+use Rattle.store_core.specs.declared.values.Direction.{Direction}
 use Rattle.fl_ast.specs.declared.stmt.Program.{Program}
 use Rattle.store_core.specs.Keys.{keys_of, LaysWithin}
 use Rattle.data_io.specs.declared.data.DataError.{DataError}
 use Rattle.data_io.specs.declared.data.DataError.TheVariants as reading
 use Rattle.data_io.specs.DataFaults.{Answers, IsJson, no_json, no_args, no_weights, args_faults, args_of, faults_of, seed_of}
-use Rattle.data_stages.specs.Files.{json_of, unless, of_json, args_in, seed_in}
+use Rattle.data_io.specs.Directions.{direction_faults, direction_of, no_direction}
+use Rattle.data_stages.specs.Files.{json_of, unless, of_json, args_in, seed_in, direction_in}
 use Rattle.data_stages.specs.Layouts.{laid_out}
 
 -- the layout that is found
@@ -66,3 +68,14 @@ pub seed_found : (program : Program) (args : Args) (of : List (List ℕ)) (bytes
     ((((d : Data) × IsJson bytes d) → ⊥) → Answers result no_json no_weights) → Finds {T = Weights} (λ a. a) reading.Memory (seed_in program args of bytes) result
 seed_found program args of bytes result json other =
     by_json result bytes (λ d. faults_of args.entries program.decls of d) (λ d. seed_of program of d) no_weights (json_of bytes) refl json other
+
+pub direction_found : (program : Program) (args : Args) (bytes : List ℕ) (result : Result Direction DataError) →
+    ((d : Data) → IsJson bytes d → Answers result (direction_faults program args d) (direction_of program d)) →
+    ((((d : Data) × IsJson bytes d) → ⊥) → Answers result no_json no_direction) → Finds {T = Direction} (λ a. a) reading.Memory (direction_in program args bytes) result
+direction_found program args bytes result json other =
+    by_json result bytes (λ d. direction_faults program args d) (λ d. direction_of program d) no_direction (json_of bytes) refl json other
+
+-- a layout that is found has few places
+pub lays_few : (result : Result (List Shape) LayoutError) (shapes : List Shape) → LaysWithin (2 ^ 20) result shapes → IfOk result (λ layout. length (keys_of layout) ≤ 2 ^ 20)
+lays_few (Ok layout) shapes h = rw h.0 h.1
+lays_few (Err error) shapes h = tt

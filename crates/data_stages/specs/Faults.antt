@@ -1,4 +1,4 @@
--- What is said of a data file or a seed file.
+-- What is said of a data file, a seed file or a direction file.
 use Rattle.std.specs.Prelude.{ℕ, List, codes, Some, None}
 use Rattle.ending.specs.declared.verdict.Verdict.TheVariants.{BadData, OverLimit}
 use Rattle.ending.specs.Plan.{Saying}

@@ -1,17 +1,17 @@
 ghost use Rattle.std.specs.Prelude.{codes};
 ghost use Rattle.ending.specs.Stage.{IsPart, IsStage};
-ghost use Rattle.data_stages.specs.Files.{args_part, seed_part, args_stage, seed_stage};
+ghost use Rattle.data_stages.specs.Files.{args_part, seed_part, direction_part, args_stage, seed_stage, direction_stage};
 
 use crate::fault::data_refused;
-use data_io::{read_args, read_seed};
+use data_io::{read_args, read_direction, read_seed};
 use ending::{Early, take_file};
 use fl_base::Name;
 use fl_types::Typed;
 use outside::Folder;
 use std::alloc::Global;
-use store_core::{Args, Weights};
+use store_core::{Args, Direction, Weights};
 
-/// The most bytes of a data file or a seed file.
+/// The most bytes of a data file, a seed file or a direction file.
 const MOST: u64 = 67_108_864;
 
 fn args_of(alloc: Global, bytes: &[u8], typed: &Typed) -> Result<Args, Early>
@@ -64,4 +64,32 @@ pub fn load_seed<F: Folder>(
 {
     let bytes = take_file(alloc, folder, file, MOST, b"limit data 67108864\n")?;
     seed_of(alloc, &bytes, typed, args, of)
+}
+
+fn direction_of(
+    alloc: Global,
+    bytes: &[u8],
+    typed: &Typed,
+    args: &Args,
+) -> Result<Direction, Early>
+    ensures { IsPart (λ direction. direction) (direction_part typed.now args.now bytes.now) result }
+{
+    match read_direction(alloc, bytes, typed, args) {
+        Ok(direction) => Ok(direction),
+        Err(error) => Err(data_refused(alloc, b"direction", error)),
+    }
+}
+
+/// The direction that the direction file gives.
+pub fn load_direction<F: Folder>(
+    alloc: Global,
+    folder: &mut F,
+    file: &Name,
+    typed: &Typed,
+    args: &Args,
+) -> Result<Direction, Early>
+    ensures { IsStage (λ direction. direction) (F.state folder.old) (F.state folder.new) (direction_stage file.now typed.now args.now) result }
+{
+    let bytes = take_file(alloc, folder, file, MOST, b"limit data 67108864\n")?;
+    direction_of(alloc, &bytes, typed, args)
 }

@@ -6,7 +6,7 @@ use data_io::DataError;
 use ending::{Early, Verdict, said};
 use std::alloc::Global;
 
-/// What is said of a data file or a seed file, `file` being its word in the text.
+/// What is said of a data file, a seed file or a direction file, `file` being its word in the text.
 pub(crate) fn data_refused(alloc: Global, file: &[u8], error: DataError) -> Early
     ensures { IsSaying (say_data file.now error) result }
 {

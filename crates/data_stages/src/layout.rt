@@ -1,5 +1,6 @@
-ghost use Rattle.std.specs.Prelude.{◌≡◌, IfOk};
+ghost use Rattle.std.specs.Prelude.{◌≡◌, ◌≤◌, ◌^◌, length, IfOk};
 ghost use Rattle.ending.specs.Stage.{IsPart, IsSaying};
+ghost use Rattle.store_core.specs.Keys.{keys_of};
 ghost use Rattle.store_core.specs.Places.{shapes_of};
 ghost use Rattle.data_stages.specs.Layouts.{say_layout, layout_stage};
 
@@ -22,6 +23,7 @@ fn layout_refused(alloc: Global, error: LayoutError) -> Early
 pub fn lay_out(alloc: Global, typed: &Typed, args: &Args) -> Result<Layout, Early>
     ensures part { IsPart (λ layout. layout) (layout_stage typed.now args.now) result }
     ensures laid { IfOk result (λ layout. layout ≡ shapes_of typed.now args.now.entries) }
+    ensures few { IfOk result (λ layout. length (keys_of layout) ≤ 2 ^ 20) }
 {
     match Layout::of(alloc, typed, args) {
         Ok(layout) => Ok(layout),

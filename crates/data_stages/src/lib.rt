@@ -1,4 +1,4 @@
-//! The stages of a command that read its data: the data file, the seed file, and the places that they take.
+//! The stages of a command that read its data: the data file, the seed file or the direction file, and the places that they take.
 #![tactic(auto)]
 
 mod data;
@@ -7,6 +7,6 @@ mod later;
 mod layout;
 mod line;
 
-pub use data::{load_args, load_seed};
+pub use data::{load_args, load_direction, load_seed};
 pub use later::{load_certificate, load_unread};
 pub use layout::lay_out;

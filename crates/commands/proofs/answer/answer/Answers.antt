@@ -4,7 +4,7 @@ use Rattle.commands.proofs.answer.answer.Goals as goal
 
 pub answer_of-requires-clause-long : goal.answer_of-requires-clause-long
 answer_of-requires-clause-long g c =
-    ap length c.in_ok-swept.ensures.values ∙ values_long c.args.inputs.now.typed c.args.inputs.now.layout c.args.inputs.now.args c.program-program.ensures.built c.requires.laid
+    ap length c.in_ok-swept.ensures.values ∙ values_long c.args.inputs.now.typed c.args.inputs.now.layout c.args.inputs.now.args c.requires.supported c.requires.laid
 
 pub answer_of-requires-clause-wide : goal.answer_of-requires-clause-wide
 answer_of-requires-clause-wide g c =
