@@ -10,14 +10,14 @@ use Rattle.ending.proofs.Done.{said_undone, answer_done}
 use Rattle.formad_words.specs.declared.words.Subject.{Subject}
 use Rattle.formad_words.specs.declared.words.Replay.{Replay}
 use Rattle.formad_words.specs.declared.words.Request.{Request}
-use Rattle.program_stage.proofs.ProgramDone.{program_done, subject_done, supported_subject_done}
+use Rattle.program_stage.proofs.ProgramDone.{subject_done, supported_subject_done}
 use Rattle.data_stages.proofs.DataDone.{args_done, seed_done, unread_undone, certificate_done, layout_done}
 use Rattle.store_core.specs.Places.{shapes_of}
 use Rattle.commands.specs.declared.inputs.Inputs.{Inputs}
 use Rattle.commands.specs.Done.{AreInputs, IsRun}
 use Rattle.commands.specs.Plans.{load_stage}
 use Rattle.commands.specs.Runs.{data_stage, inputs_stage, answer_text}
-use Rattle.commands.specs.Unbuilt.{subject_only, check_stage, tangent_stage, steps_stage, force_stage, replay_stage}
+use Rattle.commands.specs.Unbuilt.{subject_only, check_stage, steps_stage, force_stage, replay_stage}
 
 -- the inputs that a run has read
 pub inputs_done : {files : Files} (request : Request) (rest : Inputs → Plan) {status : Status} {text : List ℕ} → LeadsTo files (inputs_stage request rest) status text → status ≡ Done →
@@ -68,12 +68,6 @@ describe_undone subject c h = said_undone (subject_done subject.program subject.
 pub check_undone : {files : Files} (subject : Subject) (certificate : List ℕ) {status : Status} {text : List ℕ} → LeadsTo files (check_stage subject certificate Answers) status text → status ≡ Done → ⊥
 unfolding check_stage
 check_undone subject certificate c h = unread_undone certificate 4194304 _ _ (subject_done subject.program subject.of subject.wrt _ c h).2 h
-
-pub tangent_undone : {files : Files} (program values direction : List ℕ) {status : Status} {text : List ℕ} → LeadsTo files (tangent_stage program values direction Answers) status text → status ≡ Done → ⊥
-unfolding tangent_stage
-tangent_undone program values direction c h =
-    let typed = program_done program _ c h in
-    unread_undone direction 67108864 _ _ (args_done values typed.1 _ typed.4 h).4 h
 
 steps_undone : {files : Files} (replay : Replay) {status : Status} {text : List ℕ} → LeadsTo files (steps_stage replay Answers) status text → status ≡ Done → ⊥
 unfolding steps_stage

@@ -1,2 +1,4 @@
 pub mod CommandsDone
+pub mod Lengths
 pub mod Shown
+pub mod TangentDone

@@ -4,13 +4,17 @@ use Rattle.std.specs.List.{list_all}
 use Rattle.outside.specs.States.{Files}
 use Rattle.fl_types.specs.Supported.{is_ring_argument, is_supported}
 use Rattle.store_core.specs.Places.{shapes_of}
+use Rattle.meaning.specs.Stops.{at_end}
+use Rattle.dual_meaning.specs.Runs.{stop_of, ticks_of}
 use Rattle.program_stage.specs.Accepted.{IsProgramOf}
-use Rattle.data_stages.specs.Files.{args_in, seed_in}
+use Rattle.data_stages.specs.Files.{args_in, seed_in, direction_in}
 use Rattle.formad_words.specs.declared.words.Request.{Request}
 use Rattle.formad_words.specs.declared.words.Words.{Words}
 use Rattle.formad_words.specs.declared.words.Words.TheVariants as words
 use Rattle.commands.specs.declared.inputs.Inputs.{Inputs}
+use Rattle.commands.specs.declared.directed.Directed.{Directed}
 use Rattle.commands.specs.Runs.{answer_text}
+use Rattle.commands.specs.Tangents.{directed_meaning, directed_text}
 
 -- the files of a run give these inputs: an accepted program that can be run so far and whose arguments the names are, its arguments and the weights, and the
 -- places of its names
@@ -36,13 +40,36 @@ pub record IsRun (files : Files) (request : Request) (text : List ℕ) (before a
   pub wrote : answer_text request inputs ≡ text
   pub ticked : after ≡ before + length inputs.typed.body
 
--- what is true of a command that is done: no other one is built yet
+-- the files of a run in a direction give these inputs: an accepted program, its arguments and the direction, and the places of
+-- its names
+pub record AreDirected (files : Files) (program values direction : List ℕ) (inputs : Directed) : Type 0 where
+  pub source : List ℕ
+  pub bytes : List ℕ
+  pub along : List ℕ
+  pub program_file : files program ≡ Some source
+  pub accepted : IsProgramOf source inputs.typed
+  pub data_file : files values ≡ Some bytes
+  pub are_args : args_in inputs.typed bytes ≡ Ok inputs.args
+  pub direction_file : files direction ≡ Some along
+  pub is_direction : direction_in inputs.typed inputs.args along ≡ Ok inputs.direction
+  pub places : inputs.layout ≡ shapes_of inputs.typed inputs.args.entries
+
+-- the text is the answer of the inputs that the files give, whose run comes to its end, and the counter of steps rose by one for
+-- each statement instance
+pub record IsTangentOf (files : Files) (program values direction : List ℕ) (text : List ℕ) (before after : ℕ) : Type 0 where
+  pub inputs : Directed
+  pub given : AreDirected files program values direction inputs
+  pub ends : stop_of (directed_meaning inputs) ≡ at_end
+  pub wrote : directed_text inputs ≡ text
+  pub ticked : after ≡ before + ticks_of (directed_meaning inputs)
+
+-- what is true of a command that is done: no other ones are built yet
 abbrev pub IsDone : Files → Words → List ℕ → (before after : ℕ) → Type 0
 IsDone files (words.Run request) text before after = IsRun files request text before after
 IsDone files (words.Adjoint subject) text before after = ⊥
 IsDone files (words.Prove subject) text before after = ⊥
 IsDone files (words.Check subject certificate) text before after = ⊥
 IsDone files (words.Report subject) text before after = ⊥
-IsDone files (words.Tangent program values direction) text before after = ⊥
+IsDone files (words.Tangent program values direction) text before after = IsTangentOf files program values direction text before after
 IsDone files (words.Replay replay) text before after = ⊥
 IsDone files (words.Load edges workers) text before after = ⊥

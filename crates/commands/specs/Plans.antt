@@ -5,7 +5,8 @@ use Rattle.formad_words.specs.declared.words.Words.{Words}
 use Rattle.formad_words.specs.declared.words.Words.TheVariants as words
 use Rattle.program_stage.specs.Lines.{not_built_plan}
 use Rattle.commands.specs.Runs.{run_stage}
-use Rattle.commands.specs.Unbuilt.{subject_only, check_stage, tangent_stage, replay_stage}
+use Rattle.commands.specs.Tangents.{tangent_stage}
+use Rattle.commands.specs.Unbuilt.{subject_only, check_stage, replay_stage}
 
 -- `load` has no file, and isn't built yet
 unfoldable pub load_stage : (List ℕ → Plan) → Plan

@@ -4,7 +4,7 @@ use Rattle.ending.specs.Plan.{Plan}
 use Rattle.formad_words.specs.declared.words.Subject.{Subject}
 use Rattle.formad_words.specs.declared.words.Replay.{Replay}
 use Rattle.program_stage.specs.Lines.{not_built_plan}
-use Rattle.program_stage.specs.Programs.{program_stage, subject_stage}
+use Rattle.program_stage.specs.Programs.{subject_stage}
 use Rattle.data_stages.specs.Files.{args_stage, seed_stage}
 use Rattle.data_stages.specs.Later.{unread_stage}
 
@@ -17,13 +17,6 @@ unfoldable pub check_stage : Subject → List ℕ → (List ℕ → Plan) → Pl
 check_stage subject certificate rest =
     subject_stage subject.program subject.of subject.wrt (λ program.
     unread_stage certificate 4194304 (codes "limit certificate 4194304\n") (λ _. not_built_plan))
-
--- `tangent`: the program, the data file and the direction
-unfoldable pub tangent_stage : (program values direction : List ℕ) → (List ℕ → Plan) → Plan
-tangent_stage program values direction rest =
-    program_stage program (λ typed.
-    args_stage values typed (λ args.
-    unread_stage direction 67108864 (codes "limit data 67108864\n") (λ _. not_built_plan)))
 
 -- `replay` as it stands: the program and its names, the data file, the seed file and the steps
 unfoldable pub steps_stage : Replay → (List ℕ → Plan) → Plan

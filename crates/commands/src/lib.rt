@@ -2,9 +2,13 @@
 #![tactic(auto)]
 
 mod answer;
+mod directed;
 mod inputs;
 mod outcome;
 mod run;
+mod stop;
+mod tangent;
 mod unbuilt;
+mod widths;
 
 pub use outcome::outcome_of;

@@ -5,7 +5,8 @@ ghost use Rattle.commands.specs.Done.{IsDone};
 ghost use Rattle.commands.specs.Plans.{command_stage};
 
 use crate::run::run;
-use crate::unbuilt::{check, describe, replay, tangent};
+use crate::tangent::tangent;
+use crate::unbuilt::{check, describe, replay};
 use ending::Early;
 use formad_words::Words;
 use outside::Folder;
@@ -37,7 +38,7 @@ pub fn outcome_of<F: Folder, L: Ledger>(
             program,
             data,
             direction,
-        } => tangent(alloc, folder, program, data, direction),
+        } => tangent(alloc, folder, program, data, direction, steps),
         Words::Run(request) => run(alloc, folder, request, steps),
         Words::Replay(request) => replay(alloc, folder, request),
         Words::Load { .. } => Err(not_built(alloc)),

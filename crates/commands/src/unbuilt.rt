@@ -1,12 +1,12 @@
 ghost use Rattle.ending.specs.Stage.{IsStage};
-ghost use Rattle.commands.specs.Unbuilt.{subject_only, check_stage, tangent_stage, replay_stage, steps_stage, force_stage};
+ghost use Rattle.commands.specs.Unbuilt.{subject_only, check_stage, replay_stage, steps_stage, force_stage};
 
 use data_stages::{load_args, load_seed, load_unread};
 use ending::Early;
 use fl_base::Name;
 use formad_words::{Replay, Subject};
 use outside::Folder;
-use program_stage::{load_program, load_subject, not_built};
+use program_stage::{load_subject, not_built};
 use std::alloc::Global;
 
 /// `adjoint`, `prove` and `report`, as far as they are built.
@@ -50,29 +50,6 @@ pub(crate) fn check<F: Folder>(
         certificate,
         4_194_304,
         b"limit certificate 4194304\n",
-    )?;
-    Err(not_built(alloc))
-}
-
-/// `tangent`, as far as it is built.
-pub(crate) fn tangent<F: Folder>(
-    alloc: Global,
-    folder: &mut F,
-    program: &Name,
-    values: &Name,
-    direction: &Name,
-) -> Result<Vec<u8>, Early>
-    ensures { IsStage (λ text. text.items) (F.state folder.old) (F.state folder.new)
-        (tangent_stage program.now values.now direction.now) result }
-{
-    let typed = load_program(alloc, folder, program)?;
-    let _args = load_args(alloc, folder, values, &typed)?;
-    load_unread(
-        alloc,
-        folder,
-        direction,
-        67_108_864,
-        b"limit data 67108864\n",
     )?;
     Err(not_built(alloc))
 }

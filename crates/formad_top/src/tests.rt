@@ -180,3 +180,122 @@ fn runs(rt: HostRuntime) -> Result<(), Fail> {
     }
     Ok(())
 }
+
+const HALVES: &[u8] =
+    b"subroutine halves(n, a)\n  integer :: n\n  integer(kind=8) :: a(n)\n  integer :: i\n  do i = 1, n\n    a(2*i) = a(i)\n  end do\nend subroutine halves\n";
+
+/// A call of `tangent`: the program, the data and the direction, and what comes of it.
+#[derive(Drop)]
+struct Directed {
+    program: &'static [u8],
+    data: &'static [u8],
+    direction: &'static [u8],
+    status: Status,
+    text: &'static [u8],
+}
+
+fn directed_folder(alloc: Global, row: &Directed) -> Result<MemFolder, &'static str> {
+    let mut files = Vec::new(alloc);
+    files
+        .push(file(alloc, b"p.f90", row.program)?)
+        .map_err(|_| "memory")?;
+    files
+        .push(file(alloc, b"d.json", row.data)?)
+        .map_err(|_| "memory")?;
+    files
+        .push(file(alloc, b"t.json", row.direction)?)
+        .map_err(|_| "memory")?;
+    Ok(MemFolder::new(files, Vec::new(alloc)))
+}
+
+fn directed_words(alloc: Global) -> Result<Vec<Name>, &'static str> {
+    let mut words = Vec::new(alloc);
+    for word in [b"tangent".as_slice(), b"p.f90", b"d.json", b"t.json"] {
+        words.push(named(alloc, word)?).map_err(|_| "memory")?;
+    }
+    Ok(words)
+}
+
+/// What a call of `tangent` ends with, and whether the sink took exactly the text.
+fn directed<R: Threads + Sync, L: Ledger>(
+    rt: &R,
+    alloc: Global,
+    blank: Blank,
+    row: &Directed,
+) -> Result<(Status, bool), &'static str>
+    requires name { blank.name ≡ L.name }
+    requires parts { blank.parts ≡ L.parts }
+    requires some { 0 < L.parts }
+{
+    let mut steps = Steps::<L>::new(blank);
+    let words = directed_words(alloc)?;
+    let mut folder = directed_folder(alloc, row)?;
+    let mut sink = MemSink::new(alloc, Vec::new(alloc), 9000).map_err(|_| "memory")?;
+    let status = formad(
+        rt,
+        alloc,
+        &words,
+        &mut folder,
+        &mut sink,
+        &OpenGate,
+        &mut steps,
+    );
+    Ok((status, sink.taken() == row.text))
+}
+
+fn directed_counted<R: Threads + Sync>(
+    rt: &R,
+    alloc: Global,
+    blank: Blank,
+    row: &Directed,
+) -> Result<(Status, bool), &'static str>
+    requires { blank.parts ≡ 1 }
+{
+    directed::<R, Brand>(rt, alloc, blank, row)
+}
+
+/// An answer, a trap, and faults of a direction and of a program.
+#[test]
+fn runs_in_directions(rt: HostRuntime) -> Result<(), Fail> {
+    let poly = Directed {
+        program: POLY,
+        data: b"{\"x\":5,\"y\":0}",
+        direction: b"{\"x\":1}",
+        status: Status::Done,
+        text: b"{\"tangent\":{\"x\":1,\"y\":13},\"value\":{\"x\":5,\"y\":40}}\n",
+    };
+    let bounds = Directed {
+        program: HALVES,
+        data: b"{\"n\":3,\"a\":[1,2,3]}",
+        direction: b"{}",
+        status: Status::Trapped,
+        text: b"trap line 6 bounds a\n",
+    };
+    let unread = Directed {
+        program: POLY,
+        data: b"{\"x\":5,\"y\":0}",
+        direction: b"{",
+        status: Status::BadData,
+        text: b"direction file: not JSON\n",
+    };
+    let extra = Directed {
+        program: POLY,
+        data: b"{\"x\":5,\"y\":0}",
+        direction: b"{\"z\":1}",
+        status: Status::BadData,
+        text: b"direction z: extra\n",
+    };
+    let untyped = Directed {
+        program: b"subroutine none(x)\n  integer(kind=8) :: x\n  x = z\nend subroutine none\n",
+        data: b"{\"x\":5}",
+        direction: b"{}",
+        status: Status::Refused,
+        text: b"refused line 3: undeclared z\n",
+    };
+    for row in [poly, bounds, unread, extra, untyped].iter() {
+        let (status, whole) = directed_counted(&rt, rt.alloc(), Blank::new(1), row)?;
+        assert_eq!(rt; status, row.status);
+        assert!(rt; whole);
+    }
+    Ok(())
+}

@@ -1,7 +1,7 @@
 use Rattle.std.proofs.Common.{refl}
 use Rattle.ending.proofs.Follow.{stands, says_part}
 use Rattle.commands.specs.Done.{IsDone}
-use Rattle.commands.proofs.CommandsDone.{undone, describe_undone, check_undone, tangent_undone, replay_undone}
+use Rattle.commands.proofs.CommandsDone.{undone, describe_undone, check_undone, replay_undone}
 use Rattle.commands.proofs.outcome.outcome_of.Goals as goal
 
 pub returns-in-Adjoint-clause-done : goal.returns-in-Adjoint-clause-done
@@ -19,10 +19,6 @@ returns-in-Report-clause-done g c =
 pub returns-in-Check-clause-done : goal.returns-in-Check-clause-done
 returns-in-Check-clause-done g c =
     undone _ c.check.ensures (λ files text led. check_undone _ _ led refl) (λ files text. IsDone files c.args.words.now text c.args.steps.now c.args.steps.now)
-
-pub returns-in-Tangent-clause-done : goal.returns-in-Tangent-clause-done
-returns-in-Tangent-clause-done g c =
-    undone _ c.tangent.ensures (λ files text led. tangent_undone _ _ _ led refl) (λ files text. IsDone files c.args.words.now text c.args.steps.now c.args.steps.now)
 
 pub returns-in-Replay-clause-done : goal.returns-in-Replay-clause-done
 returns-in-Replay-clause-done g c =

@@ -1,0 +1,108 @@
+ghost use Rattle.std.specs.Prelude.{◌≡◌, ◌+◌, ◌++◌, ◌≤◌, ◌^◌, [], ◌∷◌, length, IfOk, OnOk, Some};
+ghost use Rattle.outside.specs.States.{Files};
+ghost use Rattle.ending.specs.Stage.{IsPart, IsStage};
+ghost use Rattle.store_core.specs.Keys.{keys_of};
+ghost use Rattle.store_core.specs.Places.{shapes_of};
+ghost use Rattle.meaning.specs.Stops.{at_end};
+ghost use Rattle.dual_meaning.specs.Runs.{stop_of, ticks_of};
+ghost use Rattle.answers.specs.Runs.{values_of};
+ghost use Rattle.answers.specs.Tangents.{tangents_of, ring_arguments as ring_arguments_lem};
+ghost use Rattle.commands.specs.Done.{IsTangentOf};
+ghost use Rattle.commands.specs.Tangents.{stop_stage, tangent_stage, directed_meaning, directed_text};
+
+use crate::directed::{Directed, prepare};
+use crate::stop::stopped;
+use crate::widths::shown_by_width;
+use data_io::write_tangent;
+use dual_meaning::Tangents;
+use ending::Early;
+use fl_base::{Items, Memory, Name};
+use fl_types::Typed;
+use outside::Folder;
+use ring_core::Steps;
+use std::alloc::Global;
+use std::sync::ledger::Ledger;
+
+/// All arguments of the ring kind, in their order.
+fn ring_arguments(alloc: Global, typed: &Typed) -> Result<Items<Name>, Memory>
+    ensures { IfOk result (λ names. names ≡ ring_arguments_lem typed.now) }
+{
+    let mut names = Items::new(alloc);
+    for name in typed.program().args.as_slice() {
+        if typed.is_ring_argument(name) {
+            names.push(name.clone(alloc)?)?;
+        }
+    }
+    Ok(names)
+}
+
+/// Runs a program from its arguments in a direction.
+fn run_along<L: Ledger>(
+    alloc: Global,
+    inputs: &Directed,
+    steps: &mut Steps<L>,
+) -> Result<Tangents, Early>
+    requires laid { inputs.now.layout ≡ shapes_of inputs.now.typed inputs.now.args.entries }
+    requires few { length (keys_of inputs.now.layout) ≤ 2 ^ 20 }
+    ensures part { IsPart (λ _. tt {0}) (stop_stage (stop_of (directed_meaning inputs.now))) result }
+    ensures ends { IfOk result (λ _. stop_of (directed_meaning inputs.now) ≡ at_end) }
+    ensures values { IfOk result (λ found. found.values.items ≡ values_of inputs.now.typed inputs.now.layout inputs.now.args) }
+    ensures tangents { IfOk result (λ found. found.tangents.items
+        ≡ tangents_of inputs.now.typed inputs.now.layout inputs.now.args inputs.now.direction) }
+    ensures long { IfOk result (λ found. length found.values.items ≡ length (keys_of inputs.now.layout)) }
+    ensures wide { IfOk result (λ found. length found.tangents.items ≡ length (keys_of inputs.now.layout)) }
+    ensures ticks { OnOk result (steps.new ≡ steps.old + ticks_of (directed_meaning inputs.now)) }
+{
+    match dual_meaning::tangent(
+        alloc,
+        &inputs.typed,
+        &inputs.layout,
+        &inputs.args,
+        &inputs.direction,
+        steps,
+    ) {
+        Ok(found) => Ok(found),
+        Err(stop) => Err(stopped(alloc, stop)),
+    }
+}
+
+/// The text of the answer: the tangents and the values of all arguments of the ring kind.
+fn text(alloc: Global, inputs: &Directed, found: &Tangents) -> Result<Vec<u8>, Memory>
+    requires long { length found.now.values.items ≡ length (keys_of inputs.now.layout) }
+    requires wide { length found.now.tangents.items ≡ length (keys_of inputs.now.layout) }
+    requires values { found.now.values.items ≡ values_of inputs.now.typed inputs.now.layout inputs.now.args }
+    requires tangents { found.now.tangents.items
+        ≡ tangents_of inputs.now.typed inputs.now.layout inputs.now.args inputs.now.direction }
+    ensures { IfOk result (λ text. text.items ≡ directed_text inputs.now) }
+{
+    let typed = &inputs.typed;
+    let layout = &inputs.layout;
+    let names = ring_arguments(alloc, typed)?;
+    let tangent = shown_by_width(alloc, typed, layout, &found.tangents, names.as_slice())?;
+    let value = shown_by_width(alloc, typed, layout, &found.values, names.as_slice())?;
+    let mut text = write_tangent(alloc, &tangent, &value)?;
+    text.push(b'\n')?;
+    Ok(text)
+}
+
+/// `tangent`: the tangents and the values of all arguments of the ring kind, after a run in a direction.
+pub(crate) fn tangent<F: Folder, L: Ledger>(
+    alloc: Global,
+    folder: &mut F,
+    program: &Name,
+    values: &Name,
+    direction: &Name,
+    steps: &mut Steps<L>,
+) -> Result<Vec<u8>, Early>
+    ensures stage { IsStage (λ text. text.items) (F.state folder.old) (F.state folder.new)
+        (tangent_stage program.now values.now direction.now) result }
+    ensures done { IfOk result (λ text. (files : Files) → (F.state folder.old).contents ≡ Some files →
+        IsTangentOf files program.now values.now direction.now text.items steps.old steps.new) }
+{
+    let inputs = prepare(alloc, folder, program, values, direction)?;
+    let found = run_along(alloc, &inputs, steps)?;
+    match text(alloc, &inputs, &found) {
+        Ok(text) => Ok(text),
+        Err(Memory) => Err(Early::Memory),
+    }
+}
