@@ -6,7 +6,7 @@ mod line;
 mod names;
 mod program;
 mod syntax;
-mod typing;
+mod types;
 mod unbuilt;
 
 pub use program::{load_program, load_subject, load_supported};

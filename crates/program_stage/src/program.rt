@@ -6,7 +6,7 @@ ghost use Rattle.program_stage.specs.Programs.{source_stage, program_stage, subj
 use crate::lexing::tokens_of;
 use crate::names::check_names;
 use crate::syntax::program_of;
-use crate::typing::typed_of;
+use crate::types::typed_of;
 use crate::unbuilt::check_supported;
 use ending::{Early, take_file};
 use fl_base::Name;

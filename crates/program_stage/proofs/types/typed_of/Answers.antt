@@ -1,6 +1,6 @@
 use Rattle.std.proofs.Common.{refl}
 use Rattle.ending.proofs.Follow.{finds, refuses}
-use Rattle.program_stage.proofs.typing.typed_of.Goals as goal
+use Rattle.program_stage.proofs.types.typed_of.Goals as goal
 
 pub returns-in-Ok : goal.returns-in-Ok
 unfolding Rattle.program_stage.specs.Typing.typed_stage
