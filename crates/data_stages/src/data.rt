@@ -66,12 +66,7 @@ pub fn load_seed<F: Folder>(
     seed_of(alloc, &bytes, typed, args, of)
 }
 
-fn direction_of(
-    alloc: Global,
-    bytes: &[u8],
-    typed: &Typed,
-    args: &Args,
-) -> Result<Direction, Early>
+fn direction_of(alloc: Global, bytes: &[u8], typed: &Typed, args: &Args) -> Result<Direction, Early>
     ensures { IsPart (λ direction. direction) (direction_part typed.now args.now bytes.now) result }
 {
     match read_direction(alloc, bytes, typed, args) {

@@ -323,8 +323,8 @@ module _ (l : Freed) (b b2 : ℕ) (R : More l b b2) (jg : Limit → Grammar Judg
       begins_or (where_ (nat_lt 0 b) (BracketedGrammar b jg d)) (BegunGrammar b d) (on opens) (begins_where _ _ _ (begins_in (same s.Open) opens _ (bracketed_begins d) refl refl))
       (begins_in unopened opens _ (begun_begins l b b2 R d d2 F) refl refl) z us rest (from_operand b jg d z us n)
 
-  test_exact : (d d2 : Limit) → Frees l Deep d d2 → Exact l (g.test b jg d) (on compares) (p.test b mp d) (p.test b2 mp2 d2)
-  unfolding p.test
+  test_exact : (d d2 : Limit) → Frees l Deep d d2 → Exact l (g.test b jg d) (on compares) (p.simple b mp d) (p.simple b2 mp2 d2)
+  unfolding p.simple
   test_exact d d2 F = only_exact (operand_exact d d2 F) (λ e us n. let r = relation_of l b b2 R d d2 F e us n in (r.0, r.1, test_of b jg d r.0 (us ++ r.1) r.2))
 
   denied_exact : (d d2 : Limit) → Frees l Deep d d2 → Exact l (DeniedGrammar b jg d) (on compares) (p.denied b mp d) (p.denied b2 mp2 d2)

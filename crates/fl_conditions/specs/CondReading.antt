@@ -56,13 +56,13 @@ module _ (b : ℕ) (inner : Limit → Parser Mixed) where
   unfoldable pub operand : Limit → Parser Mixed
   operand d = choose (is s.Open) (within (nat_lt 0 b) Deep (bracketed d)) (begun b d)
 
-  unfoldable pub test : Limit → Parser Judged
-  test d = operand d >>= only_test
+  unfoldable pub simple : Limit → Parser Judged
+  simple d = operand d >>= only_test
 
   unfoldable pub denied : Limit → Parser Mixed
   denied d = do
     not_ ← token (marked s.Not)
-    c ← test (less d)
+    c ← simple (less d)
     pure (Test (denial c))
 
   unfoldable pub first : Limit → Parser Mixed

@@ -230,11 +230,11 @@ impl<F: Fn(Global, &mut Cursor<'_>, usize, usize) -> Result<Mixed, Failure>> Rul
         begun(self.alloc, tokens, self.brackets, d)
     }
 
-    #[tactic(auto, unfolding(crate::specs::CondReading::test))]
-    fn test(&self, tokens: &mut Cursor<'_>, d: usize) -> Result<Judged, Failure>
+    #[tactic(auto, unfolding(crate::specs::CondReading::simple))]
+    fn simple(&self, tokens: &mut Cursor<'_>, d: usize) -> Result<Judged, Failure>
         requires nests { NestsConditions self.now.brackets (F.pre self.now.mixed) (F.post self.now.mixed) }
         requires few { d < 2 ^ 32 }
-        ensures reads { Reads (spec.test self.now.brackets (spec.below_mixed self.now.brackets) (Some d) tokens.old) result tokens.new }
+        ensures reads { Reads (spec.simple self.now.brackets (spec.below_mixed self.now.brackets) (Some d) tokens.old) result tokens.new }
         ensures depth { IfOk result (λ x. (0 < x.levels) × (x.levels ≤ d + 1)) }
     {
         match self.operand(tokens, d)? {
@@ -252,7 +252,7 @@ impl<F: Fn(Global, &mut Cursor<'_>, usize, usize) -> Result<Mixed, Failure>> Rul
         ensures depth { IfOk result (IsShallow d) }
     {
         let _not = tokens.mark(Symbol::Not)?;
-        let c = self.test(tokens, d - 1)?;
+        let c = self.simple(tokens, d - 1)?;
         Ok(Mixed::Test(denial(self.alloc, c)?))
     }
 

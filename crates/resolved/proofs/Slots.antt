@@ -90,8 +90,8 @@ pub do_fit : (names : Names) (stmt : ResolvedStmt) (line number : ℕ) (directiv
     × (is_option_within (length names.0) head.step ≡ true) × (are_fit names body ≡ true)
 do_fit names stmt line number directive head body e h =
     let f : is_fit names stmt
-        ≡ (nat_lt head.variable (length names.0) && (is_within (length names.0) head.first && (is_within (length names.0) head.last && (is_option_within (length names.0) head.step && are_fit names body))))
-        = search (rules, statement_lemmas) in
+    ≡ (nat_lt head.variable (length names.0) && (is_within (length names.0) head.first && (is_within (length names.0) head.last && (is_option_within (length names.0) head.step && are_fit names body))))
+    = search (rules, statement_lemmas) in
     fit_parts (nat_lt head.variable (length names.0)) (is_within (length names.0) head.first) (is_within (length names.0) head.last) (is_option_within (length names.0) head.step) (are_fit names body) (sym f ∙ h)
 
 -- and of an `if`
