@@ -1,10 +1,10 @@
 -- A run that comes to its end has a word for each place.
 use Rattle.std.proofs.Common.{◌≡◌, ℕ, zero, suc, ◌+◌, ◌<◌, ◌≤◌, nat_le, Bool, true, false, if◌then◌else◌, List, [], ◌∷◌, map, take, length, Option, Some, None, Result, Ok, Err, refl, sym, ap, ◌∙◌, arith}
 use Rattle.std.proofs.lemmas.List.{length-map, length-take-le}
-use Rattle.fl_ast.specs.declared.stmt.Program.{Program}
-use Rattle.fl_ast.specs.Tree.{Subroutine, program_tree}
+use Rattle.fl_ast.specs.declared.decl.Decl.{Decl}
+use Rattle.fl_ast.specs.Tree.{Subroutine}
 use Rattle.store_core.specs.declared.layout.Shape.{Shape}
-use Rattle.store_core.specs.Keys.{keys_of, with_scalars, laid_all}
+use Rattle.store_core.specs.Keys.{keys_of, laid_all, scalar}
 use Rattle.store_core.proofs.Laying.{laid_grows}
 use Rattle.meaning.specs.declared.value.TrapAt.{TrapAt}
 use Rattle.meaning.specs.Logs.{Event, begins, touches, pushes, ends, traps, Traced, events}
@@ -60,7 +60,7 @@ cells_at_end p es words direction end e =
     let site : Site = entry_site p es no_pushes in
     let kept : length end ≡ length (cells_along direction (entry_cells p es words)) = cells_kept p.body site (cells_along direction (entry_cells p es words)) end e in
     let begun : length end ≡ length site.keys = kept ∙ (along_long direction (entry_cells p es words) ∙ cells_long site p.args site.keys words) in
-    let more : length (keys_of es) ≤ length site.keys = grown es _ (length (keys_of es)) refl in omega (arith, begun, more)
+    let more : length (keys_of es) ≤ length site.keys = grown es (map (λ (d : Decl). scalar d.name) p.decls) (length (keys_of es)) refl in omega (arith, begun, more)
 
 -- ---- the words and the tangents
 
