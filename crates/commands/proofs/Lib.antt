@@ -2,3 +2,4 @@ pub mod CommandsDone
 pub mod Lengths
 pub mod Shown
 pub mod TangentDone
+pub mod TangentText

@@ -7,6 +7,9 @@ ghost use Rattle.meaning.specs.Stops.{at_end};
 ghost use Rattle.dual_meaning.specs.Runs.{stop_of, ticks_of};
 ghost use Rattle.answers.specs.Runs.{values_of};
 ghost use Rattle.answers.specs.Tangents.{tangents_of, ring_arguments as ring_arguments_lem};
+ghost use Rattle.serde_json.specs.Data.{object};
+ghost use Rattle.serde_json.specs.Written.{compact_text};
+ghost use Rattle.data_io.specs.Written.{tangent_members};
 ghost use Rattle.commands.specs.Done.{IsTangentOf};
 ghost use Rattle.commands.specs.Tangents.{stop_stage, tangent_stage, directed_meaning, directed_text};
 
@@ -22,6 +25,7 @@ use outside::Folder;
 use ring_core::Steps;
 use std::alloc::Global;
 use std::sync::ledger::Ledger;
+use store_core::Weights;
 
 /// All arguments of the ring kind, in their order.
 fn ring_arguments(alloc: Global, typed: &Typed) -> Result<Items<Name>, Memory>
@@ -66,7 +70,17 @@ fn run_along<L: Ledger>(
     }
 }
 
+/// Tangents and values as a line.
+fn line_of(alloc: Global, tangent: &Weights, value: &Weights) -> Result<Vec<u8>, Memory>
+    ensures { IfOk result (λ text. text.items ≡ compact_text (object (tangent_members tangent.now value.now)) ++ 10 ∷ []) }
+{
+    let mut text = write_tangent(alloc, tangent, value)?;
+    text.push(b'\n')?;
+    Ok(text)
+}
+
 /// The text of the answer: the tangents and the values of all arguments of the ring kind.
+#[tactic(auto, using(crate::proofs::TangentText::text_is))]
 fn text(alloc: Global, inputs: &Directed, found: &Tangents) -> Result<Vec<u8>, Memory>
     requires long { length found.now.values.items ≡ length (keys_of inputs.now.layout) }
     requires wide { length found.now.tangents.items ≡ length (keys_of inputs.now.layout) }
@@ -80,8 +94,7 @@ fn text(alloc: Global, inputs: &Directed, found: &Tangents) -> Result<Vec<u8>, M
     let names = ring_arguments(alloc, typed)?;
     let tangent = shown_by_width(alloc, typed, layout, &found.tangents, names.as_slice())?;
     let value = shown_by_width(alloc, typed, layout, &found.values, names.as_slice())?;
-    let mut text = write_tangent(alloc, &tangent, &value)?;
-    text.push(b'\n')?;
+    let text = line_of(alloc, &tangent, &value)?;
     Ok(text)
 }
 
