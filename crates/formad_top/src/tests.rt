@@ -217,7 +217,7 @@ fn directed_words(alloc: Global) -> Result<Vec<Name>, &'static str> {
 }
 
 /// What a call of `tangent` ends with, and whether the sink took exactly the text.
-fn directed<R: Threads + Sync, L: Ledger>(
+fn called_along<R: Threads + Sync, L: Ledger>(
     rt: &R,
     alloc: Global,
     blank: Blank,
@@ -251,7 +251,7 @@ fn directed_counted<R: Threads + Sync>(
 ) -> Result<(Status, bool), &'static str>
     requires { blank.parts ≡ 1 }
 {
-    directed::<R, Brand>(rt, alloc, blank, row)
+    called_along::<R, Brand>(rt, alloc, blank, row)
 }
 
 /// An answer, a trap, and faults of a direction and of a program.
