@@ -52,69 +52,30 @@ mod tests {
     use outside::MemSink;
     use std::test::Fail;
 
-    #[derive(Drop)]
-    struct Row {
-        len: usize,
-        room: usize,
-        fails: u64,
-        status: Status,
-        taken: usize,
+    /// The length of a text, the room of its sink, which put fails, how the call ends, and how much was taken.
+    static PUTS: [(usize, usize, u64, Status, usize); 6] = [
+        (0, 9000, 1, Status::Refused, 0),
+        (5000, 9000, 9, Status::Refused, 5000),
+        (5000, 9000, 2, Status::WriteFault, 4096),
+        (5000, 4999, 9, Status::WriteFault, 4096),
+        (8192, 9000, 3, Status::Refused, 8192),
+        (8193, 9000, 3, Status::WriteFault, 8192),
+    ];
+
+    /// Puts the text of a row, and tells whether what is due comes.
+    fn put_one(rt: &HostRuntime, row: &(usize, usize, u64, Status, usize)) -> Result<bool, Fail> {
+        let text = vec![in rt.alloc(); 7u8; row.0]?;
+        let fails = vec![in rt.alloc(); row.2; 1]?;
+        let mut sink = MemSink::new(rt.alloc(), fails, row.1).map_err(|_| "memory")?;
+        let status = put_as(&mut sink, Status::Refused, &text);
+        Ok(status == row.3 && sink.taken().len() == row.4)
     }
 
     /// Pieces of 4,096 bytes: a second put that fails leaves one piece, and a text of two whole pieces has no third.
     #[test]
     fn puts_pieces(rt: HostRuntime) -> Result<(), Fail> {
-        let rows = [
-            Row {
-                len: 0,
-                room: 9000,
-                fails: 1,
-                status: Status::Refused,
-                taken: 0,
-            },
-            Row {
-                len: 5000,
-                room: 9000,
-                fails: 9,
-                status: Status::Refused,
-                taken: 5000,
-            },
-            Row {
-                len: 5000,
-                room: 9000,
-                fails: 2,
-                status: Status::WriteFault,
-                taken: 4096,
-            },
-            Row {
-                len: 5000,
-                room: 4999,
-                fails: 9,
-                status: Status::WriteFault,
-                taken: 4096,
-            },
-            Row {
-                len: 8192,
-                room: 9000,
-                fails: 3,
-                status: Status::Refused,
-                taken: 8192,
-            },
-            Row {
-                len: 8193,
-                room: 9000,
-                fails: 3,
-                status: Status::WriteFault,
-                taken: 8192,
-            },
-        ];
-        for row in rows.iter() {
-            let text = vec![in rt.alloc(); 7u8; row.len]?;
-            let fails = vec![in rt.alloc(); row.fails; 1]?;
-            let mut sink = MemSink::new(rt.alloc(), fails, row.room).map_err(|_| "memory")?;
-            let status = put_as(&mut sink, Status::Refused, &text);
-            assert_eq!(rt; status, row.status);
-            assert_eq!(rt; sink.taken().len(), row.taken);
+        for row in PUTS.iter() {
+            assert!(rt; put_one(&rt, row)?);
         }
         Ok(())
     }

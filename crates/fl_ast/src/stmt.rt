@@ -1,9 +1,9 @@
-ghost use Rattle.std.specs.Prelude.{◌≡◌, IfOk};
+ghost use Rattle.std.specs.Prelude.{◌≡◌, IfOk, IsOkAnd, Ok};
 
 use crate::decl::{Decl, clone_decls};
 use crate::directive::{Directive, clone_names};
-use crate::expr::{Cond, Expr, Place};
-use fl_base::{Boxed, Items, Memory, Name};
+use crate::expr::{Cond, Expr, Place, in_box};
+use fl_base::{Items, Memory, Name};
 use std::alloc::Global;
 
 /// A statement, at the line of its first word. Loops are numbered from 1 in textual order.
@@ -60,12 +60,6 @@ pub struct Head {
     pub step: Option<Expr>,
 }
 
-fn boxed(alloc: Global, expr: &Expr) -> Result<Boxed<Expr>, Memory>
-    ensures { IfOk result (λ x. x ≡ expr.now) }
-{
-    Boxed::new(alloc, expr.clone(alloc)?)
-}
-
 fn clone_step(alloc: Global, step: &Option<Expr>) -> Result<Option<Expr>, Memory>
     ensures { IfOk result (λ x. x ≡ step.now) }
 {
@@ -97,14 +91,70 @@ pub fn clone_head(
     ensures { IfOk result (λ x. x ≡ record { var = var.now; first = first.now; last = last.now; step = step.now }) }
 {
     let var = var.clone(alloc)?;
-    let first = boxed(alloc, first)?;
-    let last = boxed(alloc, last)?;
+    let first = in_box(alloc, first.clone(alloc))?;
+    let last = in_box(alloc, last.clone(alloc))?;
     let step = clone_step(alloc, step)?;
     Ok(Head {
         var,
         first: first.into_inner(),
         last: last.into_inner(),
         step,
+    })
+}
+
+fn clone_assignment(
+    alloc: Global,
+    line: u32,
+    atomic: bool,
+    target: &Place,
+    value: &Expr,
+) -> Result<Stmt, Memory>
+    ensures { IfOk result (λ x. x ≡ Stmt.Assign line atomic target.now value.now) }
+{
+    let target = target.clone(alloc)?;
+    let value = value.clone(alloc)?;
+    Ok(Stmt::Assign {
+        line,
+        atomic,
+        target,
+        value,
+    })
+}
+
+fn branch_of(
+    line: u32,
+    arms: Result<Items<Arm>, Memory>,
+    other: Result<Items<Stmt>, Memory>,
+) -> Result<Stmt, Memory>
+    ensures { IfOk result (λ x. IsOkAnd arms (λ a. IsOkAnd other (λ o. x ≡ Stmt.If line a o))) }
+{
+    let arms = arms?;
+    let other = other?;
+    Ok(Stmt::If { line, arms, other })
+}
+
+fn loop_of(
+    line: u32,
+    number: u32,
+    directive: Result<Option<Directive>, Memory>,
+    head: Result<Head, Memory>,
+    body: Result<Items<Stmt>, Memory>,
+) -> Result<Stmt, Memory>
+    ensures { IfOk result (λ x. IsOkAnd directive (λ d. IsOkAnd head (λ h. IsOkAnd body (λ b.
+        x ≡ Stmt.Do line number d h.var h.first h.last h.step b)))) }
+{
+    let body = body?;
+    let directive = directive?;
+    let head = head?;
+    Ok(Stmt::Do {
+        line,
+        number,
+        directive,
+        var: head.var,
+        first: head.first,
+        last: head.last,
+        step: head.step,
+        body,
     })
 }
 
@@ -119,17 +169,12 @@ impl Stmt {
                 atomic,
                 target,
                 value,
-            } => Ok(Stmt::Assign {
-                line: *line,
-                atomic: *atomic,
-                target: target.clone(alloc)?,
-                value: value.clone(alloc)?,
-            }),
-            Stmt::If { line, arms, other } => Ok(Stmt::If {
-                line: *line,
-                arms: clone_arms(alloc, arms.as_slice())?,
-                other: clone_stmts(alloc, other.as_slice())?,
-            }),
+            } => clone_assignment(alloc, *line, *atomic, target, value),
+            Stmt::If { line, arms, other } => branch_of(
+                *line,
+                clone_arms(alloc, arms.as_slice()),
+                clone_stmts(alloc, other.as_slice()),
+            ),
             Stmt::Do {
                 line,
                 number,
@@ -139,21 +184,13 @@ impl Stmt {
                 last,
                 step,
                 body,
-            } => {
-                let body = clone_stmts(alloc, body.as_slice())?;
-                let directive = clone_directive(alloc, directive)?;
-                let head = clone_head(alloc, var, first, last, step)?;
-                Ok(Stmt::Do {
-                    line: *line,
-                    number: *number,
-                    directive,
-                    var: head.var,
-                    first: head.first,
-                    last: head.last,
-                    step: head.step,
-                    body,
-                })
-            }
+            } => loop_of(
+                *line,
+                *number,
+                clone_directive(alloc, directive),
+                clone_head(alloc, var, first, last, step),
+                clone_stmts(alloc, body.as_slice()),
+            ),
         }
     }
 }

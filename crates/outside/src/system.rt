@@ -130,13 +130,17 @@ mod tests {
     use std::io;
     use std::test::Fail;
 
-    #[derive(Drop)]
-    struct Row {
-        name: &'static [u8],
-        limit: u64,
-        answer: &'static str,
-        faults: u64,
-    }
+    /// Names with a limit, what comes of them, and the faults up to there.
+    static TAKES: [(&[u8], u64, &str, u64); 8] = [
+        (b"outside_takes_files.tmp", 10_000, "taken", 0),
+        (b"outside_takes_files.tmp", u64::MAX, "taken", 0),
+        (b"outside_takes_files.tmp", 9_999, "too long", 0),
+        (b"outside_takes_files.tmp", 0, "too long", 0),
+        (b"outside_no_such_file.tmp", 9, "missing", 0),
+        (b"outside_takes_files.tmp/below", 9, "missing", 0),
+        (b".", 9, "failed", 1),
+        (b"\xff", 9, "failed", 2),
+    ];
 
     fn kind_of(answer: &Result<Vec<u8>, TakeError>) -> &'static str {
         match answer {
@@ -148,71 +152,31 @@ mod tests {
         }
     }
 
+    /// Takes the file of a row, and tells whether what is due comes.
+    fn take_one(
+        rt: &HostRuntime,
+        folder: &mut FileFolder<HostRuntime>,
+        row: &(&[u8], u64, &str, u64),
+        bytes: &[u8],
+    ) -> Result<bool, Fail> {
+        let name = Name::of(rt.alloc(), row.0).map_err(|_| "memory")?;
+        let answer = folder.take(rt.alloc(), &name, row.1);
+        let is_told = kind_of(&answer) == row.2 && folder.faults == row.3;
+        match answer {
+            Ok(taken) => Ok(is_told && taken.as_slice() == bytes),
+            Err(_) => Ok(is_told),
+        }
+    }
+
     /// A file of 10,000 bytes at limits round its length, a name without a file, one that is no text, and a folder.
     #[test]
     fn takes_files(rt: HostRuntime) -> Result<(), Fail> {
         let path = "outside_takes_files.tmp";
         let bytes = vec![in rt.alloc(); 7u8; 10_000]?;
         fs::write(&rt, path, bytes.as_slice())?;
-        let rows = [
-            Row {
-                name: b"outside_takes_files.tmp",
-                limit: 10_000,
-                answer: "taken",
-                faults: 0,
-            },
-            Row {
-                name: b"outside_takes_files.tmp",
-                limit: u64::MAX,
-                answer: "taken",
-                faults: 0,
-            },
-            Row {
-                name: b"outside_takes_files.tmp",
-                limit: 9_999,
-                answer: "too long",
-                faults: 0,
-            },
-            Row {
-                name: b"outside_takes_files.tmp",
-                limit: 0,
-                answer: "too long",
-                faults: 0,
-            },
-            Row {
-                name: b"outside_no_such_file.tmp",
-                limit: 9,
-                answer: "missing",
-                faults: 0,
-            },
-            Row {
-                name: b"outside_takes_files.tmp/below",
-                limit: 9,
-                answer: "missing",
-                faults: 0,
-            },
-            Row {
-                name: b".",
-                limit: 9,
-                answer: "failed",
-                faults: 1,
-            },
-            Row {
-                name: b"\xff",
-                limit: 9,
-                answer: "failed",
-                faults: 2,
-            },
-        ];
         let mut folder = FileFolder::new(&rt);
-        for row in rows.iter() {
-            let name = Name::of(rt.alloc(), row.name).map_err(|_| "memory")?;
-            let answer = folder.take(rt.alloc(), &name, row.limit);
-            assert_eq!(rt; kind_of(&answer), row.answer);
-            assert_eq!(rt; folder.faults, row.faults);
-            if let Ok(taken) = answer {
-                assert_eq!(rt; taken.as_slice(), bytes.as_slice());
-            }
+        for row in TAKES.iter() {
+            assert!(rt; take_one(&rt, &mut folder, row, bytes.as_slice())?);
         }
         fs::remove_file(&rt, path)?;
         Ok(())

@@ -10,7 +10,7 @@ ghost use Rattle.parsing.specs.Terminal as terminal;
 use tokens::TokenKind;
 
 /// What a token is to a grammar. Words have a symbol of their own where the language gives them a meaning somewhere.
-#[derive(Clone, Copy, Debug, PartialEq, Eq)]
+#[derive(Clone, Copy, PartialEq, Eq)]
 pub enum Symbol {
     /// A word without a meaning of its own.
     Name,
