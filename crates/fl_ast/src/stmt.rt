@@ -3,7 +3,7 @@ ghost use Rattle.std.specs.Prelude.{◌≡◌, IfOk, IsOkAnd, Ok};
 use crate::decl::{Decl, clone_decls};
 use crate::directive::{Directive, clone_names};
 use crate::expr::{Cond, Expr, Place, in_box};
-use fl_base::{Items, Memory, Name};
+use fl_base::{Boxed, Items, Memory, Name};
 use std::alloc::Global;
 
 /// A statement, at the line of its first word. Loops are numbered from 1 in textual order.
@@ -51,13 +51,14 @@ pub struct Program {
     pub body: Items<Stmt>,
 }
 
-/// A loop's variable and bounds.
+/// What stands before a loop's body.
 #[derive(Drop)]
-pub struct Head {
-    pub var: Name,
-    pub first: Expr,
-    pub last: Expr,
-    pub step: Option<Expr>,
+pub(crate) struct Head {
+    pub(crate) directive: Option<Directive>,
+    pub(crate) var: Name,
+    pub(crate) first: Expr,
+    pub(crate) last: Expr,
+    pub(crate) step: Option<Expr>,
 }
 
 fn clone_step(alloc: Global, step: &Option<Expr>) -> Result<Option<Expr>, Memory>
@@ -69,7 +70,7 @@ fn clone_step(alloc: Global, step: &Option<Expr>) -> Result<Option<Expr>, Memory
     }
 }
 
-pub fn clone_directive(
+fn clone_directive(
     alloc: Global,
     directive: &Option<Directive>,
 ) -> Result<Option<Directive>, Memory>
@@ -81,25 +82,31 @@ pub fn clone_directive(
     }
 }
 
-pub fn clone_head(
+pub(crate) fn clone_head(
     alloc: Global,
+    directive: &Option<Directive>,
     var: &Name,
     first: &Expr,
     last: &Expr,
     step: &Option<Expr>,
-) -> Result<Head, Memory>
-    ensures { IfOk result (λ x. x ≡ record { var = var.now; first = first.now; last = last.now; step = step.now }) }
+) -> Result<Boxed<Head>, Memory>
+    ensures { IfOk result (λ x. x ≡ record { directive = directive.now; var = var.now; first = first.now; last = last.now; step = step.now }) }
 {
     let var = var.clone(alloc)?;
     let first = in_box(alloc, first.clone(alloc))?;
     let last = in_box(alloc, last.clone(alloc))?;
+    let directive = Boxed::new(alloc, clone_directive(alloc, directive)?)?;
     let step = clone_step(alloc, step)?;
-    Ok(Head {
-        var,
-        first: first.into_inner(),
-        last: last.into_inner(),
-        step,
-    })
+    Boxed::new(
+        alloc,
+        Head {
+            directive: directive.into_inner(),
+            var,
+            first: first.into_inner(),
+            last: last.into_inner(),
+            step,
+        },
+    )
 }
 
 fn clone_assignment(
@@ -136,20 +143,18 @@ fn branch_of(
 fn loop_of(
     line: u32,
     number: u32,
-    directive: Result<Option<Directive>, Memory>,
-    head: Result<Head, Memory>,
+    head: Result<Boxed<Head>, Memory>,
     body: Result<Items<Stmt>, Memory>,
 ) -> Result<Stmt, Memory>
-    ensures { IfOk result (λ x. IsOkAnd directive (λ d. IsOkAnd head (λ h. IsOkAnd body (λ b.
-        x ≡ Stmt.Do line number d h.var h.first h.last h.step b)))) }
+    ensures { IfOk result (λ x. IsOkAnd head (λ h. IsOkAnd body (λ b.
+        x ≡ Stmt.Do line number h.directive h.var h.first h.last h.step b))) }
 {
     let body = body?;
-    let directive = directive?;
-    let head = head?;
+    let head = head?.into_inner();
     Ok(Stmt::Do {
         line,
         number,
-        directive,
+        directive: head.directive,
         var: head.var,
         first: head.first,
         last: head.last,
@@ -187,8 +192,7 @@ impl Stmt {
             } => loop_of(
                 *line,
                 *number,
-                clone_directive(alloc, directive),
-                clone_head(alloc, var, first, last, step),
+                clone_head(alloc, directive, var, first, last, step),
                 clone_stmts(alloc, body.as_slice()),
             ),
         }
