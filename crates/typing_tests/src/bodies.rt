@@ -3,11 +3,12 @@
 use crate::told::{due, told};
 use std::test::Fail;
 
-/// Five lines of arguments: `m`, `b`, `p` and `z` are read only. Locals are `i`, `j`, `k` of the index kind, and `t` and `u` of the ring kind.
+/// Five lines. Of the arguments `m`, `b`, `p` and `z` are read only. The locals `i`, `j` and `k` are indices, `t` and `u` data.
 const HEAD: &str =
     "subroutine s(n, c, x, y, a, m, p, b, z)\n  integer :: n, c(n), i, j, k\n  integer(kind=8) :: x(n), y(n), a, t, u\n  integer, intent(in) :: m, p(n)\n  integer(kind=8), intent(in) :: b, z(n)\n";
 
-/// Statements behind these lines, with the line and the rule that is broken first.
+/// Statements behind these lines, with the line and the rule that is broken first. Where several rules are broken at one token,
+/// the earlier one is told.
 static BODIES: [(&str, &str); 96] = [
     // names that aren't declared
     ("k = q\n", "6: undeclared q"),
@@ -16,14 +17,14 @@ static BODIES: [(&str, &str); 96] = [
         "!$omp parallel do private(q)\ndo i = 1, n\nend do\n",
         "6: undeclared q",
     ),
-    //   behind another fault; in place of: rank
+    // what hides them, and what they hide: rank
     ("k = c(a)\nk = q\n", "6: data as index"),
     ("a = q(1)\n", "6: undeclared q"),
     // ranks
     ("x = 1\n", "6: rank x"),
     ("a(1) = 1\n", "6: rank a"),
     ("a = x(1, 2)\n", "6: rank x"),
-    //   in place of: kinds differ, self subscript, intent in
+    // in place of: kinds differ, self subscript, intent in
     ("a = max(1, x)\n", "6: rank x"),
     ("c(c) = 1\n", "6: rank c"),
     ("p = 1\n", "6: rank p"),
@@ -34,16 +35,16 @@ static BODIES: [(&str, &str); 96] = [
     ),
     ("k = 2147483648\n", "6: literal out of range"),
     ("a = 2147483648_4\n", "6: literal out of range"),
-    //   behind another fault
+    // behind another fault
     ("a = x(2147483648, 1)\n", "6: rank x"),
-    //   in place of: kinds differ, division of data
+    // in place of: kinds differ, division of data
     ("a = max(b, 2147483648)\n", "6: literal out of range"),
     ("a = b/2147483648\n", "6: literal out of range"),
     // kinds that differ
     ("a = max(b, 1_8)\nk = min(n, 1)\n", "typed"),
     ("a = max(b, 1)\n", "6: kinds differ"),
     ("if (min(1, b) < 2) k = 1\n", "6: kinds differ"),
-    //   in place of: division of data, data as index
+    // in place of: division of data, data as index
     ("a = max(1, b/2)\n", "6: kinds differ"),
     ("k = max(1, a)\n", "6: kinds differ"),
     // divisions
@@ -51,7 +52,7 @@ static BODIES: [(&str, &str); 96] = [
     ("a = b/2\n", "6: division of data"),
     ("a = 2/b\n", "6: division of data"),
     ("a = mod(n, 2_8)\n", "6: division of data"),
-    //   in place of: data as index
+    // in place of: data as index
     ("k = a/2\n", "6: division of data"),
     // data as an index
     ("k = a\n", "6: data as index"),
@@ -60,7 +61,7 @@ static BODIES: [(&str, &str); 96] = [
     ("do i = 1, a\nend do\n", "6: data as index"),
     ("do i = 1, 2, b\nend do\n", "6: data as index"),
     ("a = k\na = b + 1 + k\n", "typed"),
-    //   in place of: private, loop variable, atomic form, unlisted
+    // in place of: private, loop variable, atomic form, unlisted
     (
         "!$omp parallel do private(t)\ndo i = 1, n\nend do\nk = t\n",
         "9: data as index",
@@ -75,7 +76,7 @@ static BODIES: [(&str, &str); 96] = [
     ("m = 1\n", "6: intent in m"),
     ("if (n < 1) b = 1\n", "6: intent in b"),
     ("p(1) = 1\n", "6: intent in p"),
-    //   in place of: loop variable, private, self subscript, unlisted
+    // in place of: loop variable, private, self subscript, unlisted
     ("m = 1\ndo m = 1, 2\nend do\n", "6: intent in m"),
     ("p(p(1)) = 1\n", "6: intent in p"),
     (
@@ -94,7 +95,7 @@ static BODIES: [(&str, &str); 96] = [
         "8: self subscript c",
     ),
     ("x(x(1)) = 1\n", "6: self subscript x"),
-    //   before: loop variable
+    // before: loop variable
     ("c(c(i)) = 1\ndo i = 1, 2\nend do\n", "6: self subscript c"),
     // variables of loops
     (
@@ -111,7 +112,7 @@ static BODIES: [(&str, &str); 96] = [
     ),
     ("do i = 1, i\nend do\n", "6: loop variable i"),
     ("do i = 1, 2\nend do\nk = i\n", "8: loop variable i"),
-    //   in place of: private
+    // in place of: private
     (
         "k = i\ndo i = 1, n\nend do\n!$omp parallel do private(i)\ndo j = 1, n\nend do\n",
         "6: loop variable i",
@@ -137,7 +138,7 @@ static BODIES: [(&str, &str); 96] = [
         "!$omp parallel do firstprivate(t)\ndo i = 1, n\nt = 1\nend do\n",
         "8: private t",
     ),
-    //   in place of: not shareable, reduction, unlisted
+    // in place of: not shareable, reduction, unlisted
     (
         "!$omp parallel do private(x)\ndo i = 1, n\nend do\n",
         "6: private x",
@@ -171,7 +172,7 @@ static BODIES: [(&str, &str); 96] = [
         "!$omp parallel do reduction(+: a)\ndo i = 1, n\na = a + x(i)\nx(i) = a\nend do\n",
         "9: reduction a",
     ),
-    //   in place of: not shareable, atomic form
+    // in place of: not shareable, atomic form
     (
         "!$omp parallel do reduction(+: i)\ndo i = 1, n\nend do\n",
         "6: reduction i",
@@ -202,7 +203,7 @@ static BODIES: [(&str, &str); 96] = [
         "!$omp parallel do\ndo i = 1, n\n!$omp atomic\nk = k + 1\nend do\n",
         "9: atomic form",
     ),
-    //   in place of: unlisted
+    // in place of: unlisted
     (
         "!$omp parallel do default(none) shared(x)\ndo i = 1, n\n!$omp atomic\nx(i) = a\nend do\n",
         "9: atomic form",
@@ -220,7 +221,7 @@ static BODIES: [(&str, &str); 96] = [
         "!$omp parallel do firstprivate(j)\ndo i = 1, n\ndo j = 1, n\nend do\nend do\n",
         "6: not shareable j",
     ),
-    //   before: collapse form
+    // before: collapse form
     (
         "!$omp parallel do collapse(2) shared(i)\ndo i = 1, n\nend do\n",
         "6: not shareable i",
@@ -242,7 +243,7 @@ static BODIES: [(&str, &str); 96] = [
         "!$omp parallel do default(none)\ndo i = 1, n\ndo j = 1, m\nend do\nend do\n",
         "8: unlisted m",
     ),
-    //   hidden by: rank
+    // hidden by: rank
     (
         "!$omp parallel do default(none)\ndo i = 1, n\nx(i, 1) = 1\nend do\n",
         "8: rank x",
@@ -272,7 +273,7 @@ static BODIES: [(&str, &str); 96] = [
         "!$omp parallel do collapse(2)\ndo i = 1, n\ndo j = 1, n, c(1)\nc(j) = 1\nend do\nend do\n",
         "6: collapse form",
     ),
-    //   before: unlisted
+    // before: unlisted
     (
         "!$omp parallel do collapse(2) default(none)\ndo i = 1, n\nx(i) = 1\nend do\n",
         "6: collapse form",

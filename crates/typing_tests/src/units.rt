@@ -8,7 +8,7 @@ static UNITS: [(&str, &str); 31] = [
     // names that aren't declared
     ("subroutine s\nend\n", "typed"),
     ("subroutine s(q)\nend\n", "1: undeclared q"),
-    //   in place of: rank
+    // in place of: rank
     ("subroutine s(x)\ninteger x(2, q)\nend\n", "2: undeclared q"),
     // names that are declared twice
     (
@@ -19,9 +19,9 @@ static UNITS: [(&str, &str); 31] = [
         "subroutine s\ninteger a, b\ninteger a\nend\n",
         "3: declared twice a",
     ),
-    //   hidden by: undeclared
+    // hidden by: undeclared
     ("subroutine s(q, q)\nend\n", "1: undeclared q"),
-    //   in place of: local array, mixed data kinds
+    // in place of: local array, mixed data kinds
     (
         "subroutine s\ninteger a\ninteger a(3)\nend\n",
         "3: declared twice a",
@@ -46,20 +46,20 @@ static UNITS: [(&str, &str); 31] = [
         "subroutine s\ninteger nnnnnnnnnnnnnnnnnnnnnnnnnnnnnnnnnnnnnnnnnnnnnnnnnnnnnnnnnnnnnn\nend\n",
         "2: reserved name nnnnnnnnnnnnnnnnnnnnnnnnnnnnnnnnnnnnnnnnnnnnnnnnnnnnnnnnnnnnnn",
     ),
-    //   hidden by: declared twice, undeclared
+    // hidden by: declared twice, undeclared
     (
         "subroutine s(a_b, a_b)\ninteger a_b\nend\n",
         "1: declared twice a_b",
     ),
     ("subroutine s(a_b)\nend\n", "1: undeclared a_b"),
-    //   in place of: local array
+    // in place of: local array
     (
         "subroutine s\ninteger a_b(3)\nend\n",
         "2: reserved name a_b",
     ),
     // local arrays
     ("subroutine s\ninteger a(3)\nend\n", "2: local array a"),
-    //   in place of: rank, mixed data kinds
+    // in place of: rank, mixed data kinds
     (
         "subroutine s\ninteger a(1, 1, 1, 1, 1, 1, 1, 1)\nend\n",
         "2: local array a",
@@ -87,7 +87,7 @@ static UNITS: [(&str, &str); 31] = [
         "2: rank c",
     ),
     ("subroutine s(n, x)\ninteger x(n:2*n), n\nend\n", "typed"),
-    //   in place of: loop variable
+    // in place of: loop variable
     (
         "subroutine s(x)\ninteger i, x(i)\ndo i = 1, 2\nend do\nend\n",
         "2: rank i",
