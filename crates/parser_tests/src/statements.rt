@@ -4,7 +4,7 @@ use crate::told::told;
 use std::test::Fail;
 
 /// Statements, between the first line and the last.
-static STATEMENTS: [(&str, &str); 64] = [
+static STATEMENTS: [(&str, &str); 65] = [
     // words that are names
     ("then = 1\n", "read"),
     (
@@ -19,7 +19,8 @@ static STATEMENTS: [(&str, &str); 64] = [
     ("a = 1\nimplicit = 1\n", "syntax 3:1"),
     ("a = int(b)\n", "syntax 2:5"),
     ("a = merge(1, 2, b < c)\n", "syntax 2:5"),
-    ("a = b(max)\n", "syntax 2:7"),
+    ("a = b(max)\n", "syntax 2:10"),
+    ("a = b + implicit\n", "syntax 2:9"),
     ("save = 1\n", "construct 2 save"),
     ("if (a < b) return\n", "construct 2 return"),
     ("if (a < b) call t\n", "construct 2 call"),
