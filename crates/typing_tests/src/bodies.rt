@@ -17,7 +17,7 @@ static BODIES: [(&str, &str); 96] = [
         "!$omp parallel do private(q)\ndo i = 1, n\nend do\n",
         "6: undeclared q",
     ),
-    // what hides them, and what they hide: rank
+    // behind another fault; in place of: rank
     ("k = c(a)\nk = q\n", "6: data as index"),
     ("a = q(1)\n", "6: undeclared q"),
     // ranks
