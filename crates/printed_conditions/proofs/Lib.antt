@@ -1,0 +1,3 @@
+pub mod ConditionRules
+pub mod ReadConditions
+pub mod Relations

@@ -1,0 +1,6 @@
+//! Printed conditions are read back.
+#![tactic(auto)]
+
+mod condition;
+
+pub use condition::printed_conditions_are_read;
