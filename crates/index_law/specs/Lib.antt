@@ -1,0 +1,5 @@
+pub mod Worth
+pub mod Meetings
+pub mod Respect
+pub mod Steps
+pub mod Iterations
