@@ -6,3 +6,4 @@ pub mod GroupKeys
 pub mod Respects
 pub mod Steps
 pub mod Iterations
+pub mod Variables

@@ -3,3 +3,4 @@ pub mod Meetings
 pub mod Respect
 pub mod Steps
 pub mod Iterations
+pub mod Variables

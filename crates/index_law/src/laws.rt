@@ -1,5 +1,6 @@
 //! Laws on the definitions of forms and of runs.
 
+ghost use Rattle.index_law.specs.Variables.{VariablesHold};
 ghost use Rattle.index_law.specs.Worth.{SumsAreExact, DifferencesAreExact, FormsAreSubscripts};
 ghost use Rattle.index_law.specs.Meetings.{FactsHold};
 ghost use Rattle.index_law.specs.Respect.{AccessesHavePlaces, FactsAreRespected};
@@ -40,4 +41,9 @@ pub fn known_stays_true()
 /// What the iterations of a parallel loop don't write, scalars and elements alike, holds at the start of each what it held before the loop.
 pub fn invariants_hold()
     ensures { InvariantsHold }
+{}
+
+/// The form of a loop's variable is worth it: by the first bound and the step where these are literals, and by atoms for what isn't.
+pub fn variables_hold()
+    ensures { VariablesHold }
 {}

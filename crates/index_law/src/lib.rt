@@ -5,5 +5,5 @@ mod laws;
 
 pub use laws::{
     facts_are_respected, facts_hold, forms_are_subscripts, invariants_hold, known_stays_true,
-    sums_are_exact,
+    sums_are_exact, variables_hold,
 };
