@@ -1,2 +1,3 @@
 mod Paths
+pub mod FactLists
 mod Examples
