@@ -1,4 +1,4 @@
--- Small facts compute.
+-- Small facts, pairs and ranges compute.
 use Rattle.std.proofs.Common.{◌≡◌, ℕ, ℤ, pos, negsuc, List, [], ◌∷◌, refl}
 use Rattle.std.specs.Prelude.{true, false, codes}
 use Rattle.fl_types.specs.declared.access.Access.{Access}
@@ -8,7 +8,7 @@ use Rattle.fl_types.specs.declared.access.PathStep.TheVariants.{Arm, Test}
 use Rattle.index_forms.specs.declared.form.Side.{Side}
 use Rattle.index_forms.specs.declared.form.Side.TheVariants.{One, Two}
 use Rattle.index_forms.specs.Form.{iter, Form, form, no_terms, term, Forms, no_forms, and_form}
-use Rattle.index_knowledge.specs.Knowledge.{facts, serves}
+use Rattle.index_knowledge.specs.Knowledge.{KnownFact, KnownPair, facts, pairing, pairs, serves}
 
 abbrev accessed : ℕ → List ℕ → AccessKind → Access
 accessed n x k = record { number = n; loop_number = 1; line = 6; place = record { name = x; subscripts = [] }; path = []; kind = k }
@@ -29,6 +29,17 @@ apart d = form d (term (iter One) (pos 2) (term (iter Two) (negsuc 1) no_terms))
 -- y(i) = x(i)*x(i+1) with the step 2: one fact, of the third access with itself
 stride : facts accesses (on_side One) (on_side Two) ≡ record { number = 1; first = 3; second = 3; differences = apart (pos 0) ∷ [] } ∷ []
 stride = refl
+
+abbrev pair : ℕ → ℕ → ℤ → KnownPair
+pair m n d = record { loop_number = 1; first = m; second = n; differences = apart d ∷ []; nest = 1 }
+
+-- and three pairs of x
+stride_pairs : pairs (pairing 1 1 (codes "x")) (true ∷ true ∷ false ∷ []) accesses (on_side One) (on_side Two) ≡ pair 1 1 (pos 0) ∷ pair 1 2 (negsuc 0) ∷ pair 2 2 (pos 0) ∷ []
+stride_pairs = refl
+
+-- a read that isn't in a right side is in no pair
+in_a_condition : pairs (pairing 1 1 (codes "x")) (true ∷ false ∷ false ∷ []) accesses (on_side One) (on_side Two) ≡ pair 1 1 (pos 0) ∷ []
+in_a_condition = refl
 
 -- an access in an arm says nothing of what stands outside
 in_an_arm : serves (Arm 1 0 ∷ []) (Arm 1 0 ∷ []) [] [] ≡ false

@@ -1,3 +1,4 @@
 mod Paths
 pub mod FactLists
+pub mod PairLists
 mod Examples

@@ -1,4 +1,4 @@
--- What is known of a loop's subscripts: facts, and which facts serve a pair.
+-- What is known of a loop's subscripts: facts, pairs, and which facts serve a pair.
 use Rattle.std.specs.Prelude.{ℕ, suc, Bool, true, false, ◌&&◌, ◌||◌, if◌then◌else◌, nat_eq, bytes_eq, List, [], ◌∷◌, ◌++◌, length}
 use Rattle.fl_types.specs.declared.access.Access.{Access}
 use Rattle.fl_types.specs.declared.access.AccessKind.{AccessKind}
@@ -61,3 +61,54 @@ with_facts as' fs bs gs ks = ks
 -- of a loop with these accesses and their forms on both sides: by the first access's number and then by the second's
 abbrev pub facts : List Access → (ones twos : List Forms) → List KnownFact
 facts as' fs gs = with_facts as' fs as' gs []
+
+-- ---- pairs: two reads of a name in the right sides of assignments to active names, the first not behind the second
+
+-- `first` and `second` are the accesses' numbers, `nest` the number of loops whose iterations the loop's iterations are
+pub record KnownPair : Type 0 where
+  pub loop_number : ℕ
+  pub first : ℕ
+  pub second : ℕ
+  pub differences : List Form
+  pub nest : ℕ
+
+-- the pairs of one name in one loop
+pub record Pairing : Type 0 where
+  pub loop_number : ℕ
+  pub nest : ℕ
+  pub name : List ℕ
+
+abbrev pub pairing : (loop_number nest : ℕ) → List ℕ → Pairing
+pairing n k x = record { loop_number = n; nest = k; name = x }
+
+abbrev pub is_read : AccessKind → Bool
+is_read Read = true
+is_read Write = false
+is_read Update = false
+
+-- `right` says that the access is in the right side of an assignment to an active name
+abbrev pub is_paired : (name : List ℕ) → (right : Bool) → Access → Bool
+is_paired x right a = right && (bytes_eq x a.place.name && is_read a.kind)
+
+abbrev pub pair_of : Pairing → Access → (f : Forms) → Access → (g : Forms) → KnownPair
+pair_of c a f b g = record { loop_number = c.loop_number; first = a.number; second = b.number; differences = differences f g; nest = c.nest }
+
+abbrev pub and_pair : Pairing → Access → (f : Forms) → (right : Bool) → Access → (g : Forms) → List KnownPair → List KnownPair
+and_pair c a f right b g ks = if is_paired c.name right b then ks ++ pair_of c a f b g ∷ [] else ks
+
+abbrev pub with_pairs_of : Pairing → Access → (f : Forms) → List Bool → List Access → List Forms → List KnownPair → List KnownPair
+with_pairs_of c a f (r ∷ rs) (b ∷ bs) (g ∷ gs) ks = with_pairs_of c a f rs bs gs (and_pair c a f r b g ks)
+with_pairs_of c a f rs bs gs ks = ks
+
+-- an access with those from it on, where it is one of these reads
+abbrev pub with_pairs_at : Pairing → Access → (f : Forms) → (right : Bool) → List Bool → List Access → List Forms → List KnownPair → List KnownPair
+with_pairs_at c a f right rs bs gs ks = if is_paired c.name right a then with_pairs_of c a f rs bs gs ks else ks
+
+-- `rights` says it of each access
+abbrev pub with_pairs : Pairing → List Bool → List Access → (ones twos : List Forms) → List KnownPair → List KnownPair
+with_pairs c (r ∷ rs) (a ∷ as') (f ∷ fs) (g ∷ gs) ks =
+    with_pairs c rs as' fs gs (with_pairs_at c a f r (r ∷ rs) (a ∷ as') (g ∷ gs) ks)
+with_pairs c rs as' fs gs ks = ks
+
+abbrev pub pairs : Pairing → (rights : List Bool) → List Access → (ones twos : List Forms) → List KnownPair
+pairs c rs as' fs gs = with_pairs c rs as' fs gs []

@@ -2,7 +2,9 @@
 #![tactic(auto)]
 
 mod fact;
+mod pair;
 mod path;
 
 pub use fact::{Fact, facts};
+pub use pair::{Pair, pairs};
 pub use path::{is_prefix, serves};
