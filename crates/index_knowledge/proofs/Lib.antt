@@ -1,2 +1,4 @@
 mod Paths
+pub mod FactLists
+pub mod PairLists
 mod Examples

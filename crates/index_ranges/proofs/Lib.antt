@@ -1,0 +1,2 @@
+pub mod RangeLists
+mod Examples
