@@ -1,3 +1,4 @@
 pub mod Lists
 pub mod Increments
 pub mod Straight
+pub mod Classes

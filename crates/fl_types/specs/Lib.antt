@@ -8,3 +8,4 @@ pub mod Kinds
 pub mod WellTyped
 pub mod Mentions
 pub mod Rows
+pub mod Surface

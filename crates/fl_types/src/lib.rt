@@ -6,6 +6,7 @@ mod choice;
 mod increment;
 mod sharing;
 mod supported;
+mod surface;
 mod typed;
 
 pub use access::{Access, AccessKind, PathStep};

@@ -7,7 +7,7 @@ ghost use Rattle.fl_types.specs.Supported as supported;
 
 use fl_ast::{BinOp, Decl, Expr, Intent, Kind, Name, Place, Program, Stmt};
 
-fn has_name(name: &Name, names: &[Name]) -> bool
+pub(crate) fn has_name(name: &Name, names: &[Name]) -> bool
     ensures { result ≡ sharing.has_name name.now names.now }
 {
     names.iter().any(|other| name.is(other))
@@ -65,7 +65,7 @@ fn is_reserved(name: &Name) -> bool
     bytes.ends_with(b"_b") || bytes.starts_with(b"formad_") || bytes.len() > 61
 }
 
-fn is_ring_kind(kind: Kind) -> bool
+pub(crate) fn is_ring_kind(kind: Kind) -> bool
     ensures { result ≡ sharing.is_ring_kind kind }
 {
     match kind {

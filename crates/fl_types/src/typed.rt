@@ -1,7 +1,9 @@
 ghost use Rattle.std.specs.Prelude.{◌≡◌};
 
+use crate::sharing::Sharing;
 use crate::supported::{is_ring_argument, is_supported};
-use fl_ast::{Name, Program};
+use crate::surface::{bytes_of_data, class_within_all, kind_declared};
+use fl_ast::{Kind, Name, Program};
 use std::marker::Model;
 use thiserror::Error;
 
@@ -100,7 +102,10 @@ impl Model for Typed {
 
 impl Typed {
     ghost use Rattle.fl_types.specs.Supported.{is_supported as is_supported_lem, is_ring_argument as is_ring_argument_lem};
-    ghost use Rattle.fl_types.specs.WellTyped.{IsTyped};
+    ghost use Rattle.fl_ast.specs.Tree.{stmt_trees};
+    ghost use Rattle.fl_types.specs.Sharing.{sharing_of as sharing_of_lem};
+    ghost use Rattle.fl_types.specs.Surface.{HasLoop, kind_of as kind_of_lem};
+    ghost use Rattle.fl_types.specs.WellTyped.{IsTyped, bytes_of_data as bytes_of_data_lem};
 
     /// A program that is known to be typed.
     pub fn of(program: Program) -> Typed
@@ -129,5 +134,30 @@ impl Typed {
         ensures { result ≡ is_ring_argument_lem self.now name.now }
     {
         is_ring_argument(&self.program, name)
+    }
+
+    /// The kind of a declared name.
+    pub fn kind_of(&self, name: &Name) -> Option<Kind>
+        ensures { result ≡ kind_of_lem self.now name.now }
+    {
+        kind_declared(self.program.decls.as_slice(), name)
+    }
+
+    /// How many bytes data has.
+    pub fn bytes_of_data(&self) -> u32
+        ensures { result ≡ bytes_of_data_lem self.now.decls }
+    {
+        bytes_of_data(self.program.decls.as_slice())
+    }
+
+    /// The class of a name in the parallel loop with a number.
+    pub fn sharing_of(&self, loop_number: u32, name: &Name) -> Sharing
+        requires { HasLoop self.now loop_number }
+        ensures { result ≡ sharing_of_lem (stmt_trees self.now.body) loop_number name.now }
+    {
+        match class_within_all(self.program.body.as_slice(), loop_number, name) {
+            Some(class) => class,
+            None => Sharing::Shared,
+        }
     }
 }

@@ -9,7 +9,8 @@ ghost use Rattle.typing.specs.Views.{around_of};
 use crate::around::{Around, Ends};
 use crate::kinds::{differ, is_data, kind_of_name, some_data};
 use crate::updates::is_no_update;
-use fl_ast::{BinOp, Expr, Fun, Kind, Place, Program};
+use fl_ast::{BinOp, Expr, Fun, Kind, Place};
+use known_names::Indexed;
 
 pub(crate) const NOTHING: Ends = Ends {
     clash: false,
@@ -56,14 +57,14 @@ pub(crate) fn at_last(behind: &[Expr], ends: Ends) -> Ends
     }
 }
 
-fn operates_on_data(program: &Program, left: &Expr, right: &Expr) -> bool
+fn operates_on_data(program: &Indexed<'_>, left: &Expr, right: &Expr) -> bool
     ensures { result ≡ firsts.is_data program.now (expr_tree left.now) || firsts.is_data program.now (expr_tree right.now) }
 {
-    is_data(left, program.decls.as_slice()) || is_data(right, program.decls.as_slice())
+    is_data(left, program) || is_data(right, program)
 }
 
 pub(crate) fn with_operation(
-    program: &Program,
+    program: &Indexed<'_>,
     op: BinOp,
     left: &Expr,
     right: &Expr,
@@ -77,36 +78,35 @@ pub(crate) fn with_operation(
     }
 }
 
-pub(crate) fn with_call(program: &Program, fun: Fun, args: &[Expr], ends: Ends) -> Ends
+pub(crate) fn with_call(program: &Indexed<'_>, fun: Fun, args: &[Expr], ends: Ends) -> Ends
     ensures { result ≡ firsts.with_call program.now fun (expr_trees args.now) ends }
 {
-    let decls = program.decls.as_slice();
     match fun {
-        Fun::Max => with_clash(differ(args, decls), ends),
-        Fun::Min => with_clash(differ(args, decls), ends),
-        Fun::Mod => with_division(some_data(args, decls), ends),
+        Fun::Max => with_clash(differ(args, program), ends),
+        Fun::Min => with_clash(differ(args, program), ends),
+        Fun::Mod => with_division(some_data(args, program), ends),
         Fun::Abs => ends,
     }
 }
 
 /// With an expression where an index is due.
-pub(crate) fn as_index(program: &Program, expr: &Expr, ends: Ends) -> Ends
+pub(crate) fn as_index(program: &Indexed<'_>, expr: &Expr, ends: Ends) -> Ends
     ensures { result ≡ firsts.with_index (firsts.is_data program.now (expr_tree expr.now)) ends }
 {
-    with_index(is_data(expr, program.decls.as_slice()), ends)
+    with_index(is_data(expr, program), ends)
 }
 
-fn takes_data(program: &Program, target: &Place, value: &Expr) -> bool
+fn takes_data(program: &Indexed<'_>, target: &Place, value: &Expr) -> bool
     ensures { result ≡ firsts.takes_data program.now (place_tree target.now) (expr_tree value.now) }
 {
-    match kind_of_name(&target.name, program.decls.as_slice()) {
-        Kind::Index => is_data(value, program.decls.as_slice()),
+    match kind_of_name(&target.name, program) {
+        Kind::Index => is_data(value, program),
         Kind::Ring => false,
     }
 }
 
 fn is_bad_update(
-    program: &Program,
+    program: &Indexed<'_>,
     around: &Around<'_, '_>,
     atomic: bool,
     target: &Place,
@@ -124,7 +124,7 @@ fn is_bad_update(
 }
 
 pub(crate) fn ends_of_assignment(
-    program: &Program,
+    program: &Indexed<'_>,
     around: &Around<'_, '_>,
     atomic: bool,
     target: &Place,

@@ -6,13 +6,13 @@ ghost use Rattle.fl_ast.specs.Tree.{expr_tree, expr_trees};
 ghost use Rattle.fl_types.specs.Kinds.{kind_of_expression, kinds_of_expressions, kind_of_name as kind_of_name_lem, wider_kind, widest_kind, is_index_kind, declared_names};
 ghost use Rattle.fl_types.specs.Rows.{any_ring, differ as differ_lem};
 
-use crate::names::is_ring_name;
-use fl_ast::{Decl, Expr, Kind, Name};
+use fl_ast::{Expr, Kind, Name};
+use known_names::Indexed;
 
-pub(crate) fn kind_of_name(name: &Name, decls: &[Decl]) -> Kind
-    ensures { result ≡ kind_of_name_lem (declared_names decls.now) name.now }
+pub(crate) fn kind_of_name(name: &Name, program: &Indexed<'_>) -> Kind
+    ensures { result ≡ kind_of_name_lem (declared_names program.now.decls) name.now }
 {
-    if is_ring_name(decls, name) {
+    if program.is_data(name) {
         Kind::Ring
     } else {
         Kind::Index
@@ -29,27 +29,27 @@ fn wider(first: Kind, second: Kind) -> Kind
 }
 
 #[cycle(kind)]
-pub(crate) fn kind(expr: &Expr, decls: &[Decl]) -> Kind
-    ensures { result ≡ kind_of_expression (declared_names decls.now) (expr_tree expr.now) }
+pub(crate) fn kind(expr: &Expr, program: &Indexed<'_>) -> Kind
+    ensures { result ≡ kind_of_expression (declared_names program.now.decls) (expr_tree expr.now) }
 {
     match expr {
         Expr::Lit { kind, .. } => *kind,
-        Expr::Get(place) => kind_of_name(&place.name, decls),
-        Expr::Neg(inner) => kind(inner.get(), decls),
+        Expr::Get(place) => kind_of_name(&place.name, program),
+        Expr::Neg(inner) => kind(inner.get(), program),
         Expr::Bin { left, right, .. } => {
-            wider(kind(left.get(), decls), kind(right.get(), decls))
+            wider(kind(left.get(), program), kind(right.get(), program))
         }
-        Expr::Pow { base, .. } => kind(base.get(), decls),
-        Expr::Call { args, .. } => widest(args.as_slice(), decls),
+        Expr::Pow { base, .. } => kind(base.get(), program),
+        Expr::Call { args, .. } => widest(args.as_slice(), program),
     }
 }
 
 #[cycle(kind)]
-fn widest(args: &[Expr], decls: &[Decl]) -> Kind
-    ensures { result ≡ widest_kind (kinds_of_expressions (declared_names decls.now) (expr_trees args.now)) }
+fn widest(args: &[Expr], program: &Indexed<'_>) -> Kind
+    ensures { result ≡ widest_kind (kinds_of_expressions (declared_names program.now.decls) (expr_trees args.now)) }
 {
     for arg in args {
-        match kind(arg, decls) {
+        match kind(arg, program) {
             Kind::Ring => return Kind::Ring,
             Kind::Index => {}
         }
@@ -58,20 +58,20 @@ fn widest(args: &[Expr], decls: &[Decl]) -> Kind
 }
 
 /// Whether the expression is data.
-pub(crate) fn is_data(expr: &Expr, decls: &[Decl]) -> bool
-    ensures { result ≡ not (is_index_kind (kind_of_expression (declared_names decls.now) (expr_tree expr.now))) }
+pub(crate) fn is_data(expr: &Expr, program: &Indexed<'_>) -> bool
+    ensures { result ≡ not (is_index_kind (kind_of_expression (declared_names program.now.decls) (expr_tree expr.now))) }
 {
-    match kind(expr, decls) {
+    match kind(expr, program) {
         Kind::Ring => true,
         Kind::Index => false,
     }
 }
 
-pub(crate) fn some_data(args: &[Expr], decls: &[Decl]) -> bool
-    ensures { result ≡ any_ring (kinds_of_expressions (declared_names decls.now) (expr_trees args.now)) }
+pub(crate) fn some_data(args: &[Expr], program: &Indexed<'_>) -> bool
+    ensures { result ≡ any_ring (kinds_of_expressions (declared_names program.now.decls) (expr_trees args.now)) }
 {
     for arg in args {
-        if is_data(arg, decls) {
+        if is_data(arg, program) {
             return true;
         }
     }
@@ -88,11 +88,11 @@ fn are_two_kinds(first: Kind, second: Kind) -> bool
 }
 
 /// Whether the expressions are two, of two kinds.
-pub(crate) fn differ(args: &[Expr], decls: &[Decl]) -> bool
-    ensures { result ≡ differ_lem (kinds_of_expressions (declared_names decls.now) (expr_trees args.now)) }
+pub(crate) fn differ(args: &[Expr], program: &Indexed<'_>) -> bool
+    ensures { result ≡ differ_lem (kinds_of_expressions (declared_names program.now.decls) (expr_trees args.now)) }
 {
     match args {
-        [first, second] => are_two_kinds(kind(first, decls), kind(second, decls)),
+        [first, second] => are_two_kinds(kind(first, program), kind(second, program)),
         _ => false,
     }
 }

@@ -25,7 +25,7 @@ fn varies(stmt: &Stmt, name: &Name) -> bool
 }
 
 #[cycle(varies)]
-pub(crate) fn varies_in(stmts: &[Stmt], name: &Name) -> bool
+fn varies_in(stmts: &[Stmt], name: &Name) -> bool
     ensures { result ≡ sharing.varies_in name.now (stmt_trees stmts.now) }
 {
     for stmt in stmts {
@@ -95,70 +95,6 @@ pub(crate) fn is_private_in(region: &Region<'_>, name: &Name) -> bool
     ensures { result ≡ rows.is_private_in (region_of region.now) name.now }
 {
     has_name(name, region.directive.privates.as_slice()) && !varies_in_loop(region, name)
-}
-
-fn is_private_by(directive: &Option<Directive>, var: &Name, body: &[Stmt], name: &Name) -> bool
-    ensures { result ≡ rows.is_private_by directive.now var.now (stmt_trees body.now) name.now }
-{
-    match directive {
-        None => false,
-        Some(directive) => {
-            let region = Region {
-                directive,
-                var,
-                body,
-            };
-            is_private_in(&region, name)
-        }
-    }
-}
-
-#[cycle(is_private)]
-fn is_private_within(stmt: &Stmt, name: &Name) -> bool
-    ensures { result ≡ rows.is_private_within name.now (stmt_tree stmt.now) }
-{
-    match stmt {
-        Stmt::Assign { .. } => false,
-        Stmt::If { arms, other, .. } => {
-            is_private_within_arms(arms.as_slice(), name)
-                || is_private_within_all(other.as_slice(), name)
-        }
-        Stmt::Do {
-            directive,
-            var,
-            body,
-            ..
-        } => {
-            if is_private_by(directive, var, body.as_slice(), name) {
-                return true;
-            }
-            is_private_within_all(body.as_slice(), name)
-        }
-    }
-}
-
-#[cycle(is_private)]
-pub(crate) fn is_private_within_all(stmts: &[Stmt], name: &Name) -> bool
-    ensures { result ≡ rows.is_private_within_all name.now (stmt_trees stmts.now) }
-{
-    for stmt in stmts {
-        if is_private_within(stmt, name) {
-            return true;
-        }
-    }
-    false
-}
-
-#[cycle(is_private)]
-fn is_private_within_arms(arms: &[Arm], name: &Name) -> bool
-    ensures { result ≡ rows.is_private_within_arms name.now (arm_trees arms.now) }
-{
-    for arm in arms {
-        if is_private_within_all(arm.body.as_slice(), name) {
-            return true;
-        }
-    }
-    false
 }
 
 pub(crate) fn is_own_in(parallel: &Option<Region<'_>>, name: &Name) -> bool

@@ -1,13 +1,12 @@
 //! What declarations say of names.
 
 ghost use Rattle.std.specs.Prelude.{◌≡◌};
-ghost use Rattle.std.specs.Option.{option_copied};
-ghost use Rattle.fl_types.specs.Kinds as kinds;
 ghost use Rattle.fl_types.specs.Sharing as sharing;
 ghost use Rattle.fl_types.specs.Supported as supported;
 ghost use Rattle.fl_types.specs.WellTyped as typed;
 
-use fl_ast::{Decl, Intent, Kind, Name, Program};
+use fl_ast::{Decl, Intent, Kind, Name};
+use known_names::Indexed;
 
 pub(crate) fn has_name(name: &Name, names: &[Name]) -> bool
     ensures { result ≡ sharing.has_name name.now names.now }
@@ -46,101 +45,79 @@ fn is_read_only(intent: Intent) -> bool
     }
 }
 
-pub(crate) fn is_ring_name(decls: &[Decl], name: &Name) -> bool
-    ensures { result ≡ sharing.is_ring_name decls.now name.now }
-{
-    decls
-        .iter()
-        .any(|decl| name.is(&decl.name) && is_ring_kind(decl.kind))
-}
-
-pub(crate) fn has_rank(decls: &[Decl], name: &Name, count: usize) -> bool
-    ensures { result ≡ kinds.has_declared_rank decls.now name.now count }
-{
-    decls
-        .iter()
-        .any(|decl| name.is(&decl.name) && decl.dims.len() == count)
-}
-
-fn declaration<'a>(decls: &'a [Decl], name: &Name) -> Option<&'a Decl>
-    ensures { option_copied result ≡ typed.declaration_of decls.now name.now }
-{
-    decls.iter().find(|decl| name.is(&decl.name))
-}
-
-pub(crate) fn is_scalar(program: &Program, name: &Name) -> bool
+pub(crate) fn is_scalar(program: &Indexed<'_>, name: &Name) -> bool
     ensures { result ≡ typed.is_scalar_declared (typed.declaration_of program.now.decls name.now) }
 {
-    match declaration(program.decls.as_slice(), name) {
+    match program.declaration(name) {
         Some(decl) => decl.dims.is_empty(),
         None => false,
     }
 }
 
-fn is_ring(program: &Program, name: &Name) -> bool
+fn is_ring(program: &Indexed<'_>, name: &Name) -> bool
     ensures { result ≡ typed.is_ring_declared (typed.declaration_of program.now.decls name.now) }
 {
-    match declaration(program.decls.as_slice(), name) {
+    match program.declaration(name) {
         Some(decl) => is_ring_kind(decl.kind),
         None => false,
     }
 }
 
-fn is_index(program: &Program, name: &Name) -> bool
+fn is_index(program: &Indexed<'_>, name: &Name) -> bool
     ensures { result ≡ typed.is_index_declared (typed.declaration_of program.now.decls name.now) }
 {
-    match declaration(program.decls.as_slice(), name) {
+    match program.declaration(name) {
         Some(decl) => !is_ring_kind(decl.kind),
         None => false,
     }
 }
 
-fn is_kept(program: &Program, name: &Name) -> bool
+fn is_kept(program: &Indexed<'_>, name: &Name) -> bool
     ensures { result ≡ typed.is_read_only_declared (typed.declaration_of program.now.decls name.now) }
 {
-    match declaration(program.decls.as_slice(), name) {
+    match program.declaration(name) {
         Some(decl) => is_read_only(decl.intent),
         None => false,
     }
 }
 
-pub(crate) fn is_index_scalar_argument(program: &Program, name: &Name) -> bool
+pub(crate) fn is_index_scalar_argument(program: &Indexed<'_>, name: &Name) -> bool
     ensures { result ≡ typed.is_index_scalar_argument program.now name.now }
 {
-    if !has_name(name, program.args.as_slice()) {
+    if !program.is_argument(name) {
         return false;
     }
     is_index(program, name) && is_scalar(program, name)
 }
 
-pub(crate) fn is_local_scalar(program: &Program, name: &Name) -> bool
+pub(crate) fn is_local_scalar(program: &Indexed<'_>, name: &Name) -> bool
     ensures { result ≡ typed.is_local_scalar program.now name.now }
 {
-    !has_name(name, program.args.as_slice()) && is_scalar(program, name)
+    !program.is_argument(name) && is_scalar(program, name)
 }
 
-pub(crate) fn is_local_index_scalar(program: &Program, name: &Name) -> bool
+pub(crate) fn is_local_index_scalar(program: &Indexed<'_>, name: &Name) -> bool
     ensures { result ≡ typed.is_local_index_scalar program.now name.now }
 {
     is_index(program, name) && is_local_scalar(program, name)
 }
 
-pub(crate) fn is_ring_scalar(program: &Program, name: &Name) -> bool
+pub(crate) fn is_ring_scalar(program: &Indexed<'_>, name: &Name) -> bool
     ensures { result ≡ typed.is_ring_scalar program.now name.now }
 {
     is_ring(program, name) && is_scalar(program, name)
 }
 
-pub(crate) fn is_read_only_argument(program: &Program, name: &Name) -> bool
+pub(crate) fn is_read_only_argument(program: &Indexed<'_>, name: &Name) -> bool
     ensures { result ≡ typed.is_read_only_argument program.now name.now }
 {
-    has_name(name, program.args.as_slice()) && is_kept(program, name)
+    program.is_argument(name) && is_kept(program, name)
 }
 
-pub(crate) fn is_argument_if_array(args: &[Name], decl: &Decl) -> bool
-    ensures { result ≡ typed.is_argument_if_array args.now decl.now }
+pub(crate) fn is_argument_if_array(program: &Indexed<'_>, decl: &Decl) -> bool
+    ensures { result ≡ typed.is_argument_if_array program.now.args decl.now }
 {
-    decl.dims.is_empty() || has_name(&decl.name, args)
+    decl.dims.is_empty() || program.is_argument(&decl.name)
 }
 
 /// The bytes of data: those of the first declaration of data.

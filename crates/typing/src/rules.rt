@@ -10,28 +10,16 @@ ghost use Rattle.typing.specs.Views.{names_in, around_of, region_of, optional_re
 
 use crate::around::{Around, Ends, Region};
 use crate::loops::{
-    is_bad_nest, is_first_in, is_own_in, is_plus_in, is_private_in, is_private_within_all,
-    is_unlisted_in, varies_in, varies_in_loop,
+    is_bad_nest, is_first_in, is_own_in, is_plus_in, is_private_in, is_unlisted_in, varies_in_loop,
 };
 use crate::names::{
-    has_bytes_of_data, has_name, has_rank, is_argument_if_array, is_declared,
-    is_index_scalar_argument, is_local_index_scalar, is_local_scalar, is_read_only_argument,
-    is_reserved, is_ring_scalar, is_scalar,
+    has_bytes_of_data, has_name, is_argument_if_array, is_declared, is_index_scalar_argument,
+    is_local_index_scalar, is_local_scalar, is_read_only_argument, is_reserved, is_ring_scalar,
+    is_scalar,
 };
 use crate::rule::Rule;
-use fl_ast::{Decl, Kind, Name, Program};
-
-fn is_varying(program: &Program, name: &Name) -> bool
-    ensures { result ≡ rows.is_varying program.now name.now }
-{
-    varies_in(program.body.as_slice(), name)
-}
-
-fn is_private_name(program: &Program, name: &Name) -> bool
-    ensures { result ≡ rows.is_private_name program.now name.now }
-{
-    is_private_within_all(program.body.as_slice(), name)
-}
+use fl_ast::{Decl, Kind, Name};
+use known_names::Indexed;
 
 pub(crate) fn unit_rule(name: &Name) -> Option<Rule>
     ensures { result ≡ firsts.unit_rule name.now }
@@ -42,10 +30,10 @@ pub(crate) fn unit_rule(name: &Name) -> Option<Rule>
     None
 }
 
-pub(crate) fn argument_rule(program: &Program, earlier: &[Name], name: &Name) -> Option<Rule>
+pub(crate) fn argument_rule(program: &Indexed<'_>, earlier: &[Name], name: &Name) -> Option<Rule>
     ensures { result ≡ firsts.argument_rule program.now earlier.now name.now }
 {
-    if !is_declared(program.decls.as_slice(), name) {
+    if !program.is_declared(name) {
         return Some(Rule::Undeclared);
     }
     if has_name(name, earlier) {
@@ -54,7 +42,7 @@ pub(crate) fn argument_rule(program: &Program, earlier: &[Name], name: &Name) ->
     None
 }
 
-pub(crate) fn declared_rule(program: &Program, earlier: &[Decl], decl: &Decl) -> Option<Rule>
+pub(crate) fn declared_rule(program: &Indexed<'_>, earlier: &[Decl], decl: &Decl) -> Option<Rule>
     ensures { result ≡ firsts.declared_rule program.now earlier.now decl.now }
 {
     if is_declared(earlier, &decl.name) {
@@ -63,43 +51,43 @@ pub(crate) fn declared_rule(program: &Program, earlier: &[Decl], decl: &Decl) ->
     if is_reserved(&decl.name) {
         return Some(Rule::ReservedSuffix);
     }
-    if !is_argument_if_array(program.args.as_slice(), decl) {
+    if !is_argument_if_array(program, decl) {
         return Some(Rule::LocalArray);
     }
     if decl.dims.len() > 7 {
         return Some(Rule::Rank);
     }
-    if !has_bytes_of_data(program.decls.as_slice(), decl) {
+    if !has_bytes_of_data(program.program().decls.as_slice(), decl) {
         return Some(Rule::MixedKinds);
     }
     None
 }
 
-pub(crate) fn bounding_rule(program: &Program, name: &Name) -> Option<Rule>
+pub(crate) fn bounding_rule(program: &Indexed<'_>, name: &Name) -> Option<Rule>
     ensures { result ≡ firsts.bounding_rule program.now name.now }
 {
-    if !is_declared(program.decls.as_slice(), name) {
+    if !program.is_declared(name) {
         return Some(Rule::Undeclared);
     }
     if !is_index_scalar_argument(program, name) {
         return Some(Rule::Rank);
     }
-    if is_varying(program, name) {
+    if program.is_varying(name) {
         return Some(Rule::LoopVarUse);
     }
-    if is_private_name(program, name) {
+    if program.is_private(name) {
         return Some(Rule::PrivateUse);
     }
     None
 }
 
-fn is_private_and_no_local(program: &Program, region: &Region<'_>, name: &Name) -> bool
+fn is_private_and_no_local(program: &Indexed<'_>, region: &Region<'_>, name: &Name) -> bool
     ensures { result ≡ rows.is_private_in (region_of region.now) name.now && not (typed.is_local_scalar program.now name.now) }
 {
     is_private_in(region, name) && !is_local_scalar(program, name)
 }
 
-fn is_plus_and_no_ring(program: &Program, region: &Region<'_>, name: &Name) -> bool
+fn is_plus_and_no_ring(program: &Indexed<'_>, region: &Region<'_>, name: &Name) -> bool
     ensures { result ≡ sharing.has_name name.now region.now.directive.now.pluses && not (typed.is_ring_scalar program.now name.now) }
 {
     has_name(name, region.directive.pluses.as_slice()) && !is_ring_scalar(program, name)
@@ -111,7 +99,7 @@ fn is_copied(region: &Region<'_>, name: &Name) -> bool
     is_private_in(region, name) || has_name(name, region.directive.firsts.as_slice())
 }
 
-fn is_copied_array(program: &Program, region: &Region<'_>, name: &Name) -> bool
+fn is_copied_array(program: &Indexed<'_>, region: &Region<'_>, name: &Name) -> bool
     ensures { result ≡ firsts.is_copied_array program.now (region_of region.now) name.now }
 {
     is_copied(region, name) && !is_scalar(program, name)
@@ -123,16 +111,16 @@ fn is_wrong_variable(region: &Region<'_>, name: &Name) -> bool
     varies_in_loop(region, name) && !has_name(name, region.directive.privates.as_slice())
 }
 
-fn is_not_shareable(program: &Program, region: &Region<'_>, name: &Name) -> bool
+fn is_not_shareable(program: &Indexed<'_>, region: &Region<'_>, name: &Name) -> bool
     ensures { result ≡ firsts.is_copied_array program.now (region_of region.now) name.now || firsts.is_wrong_variable (region_of region.now) name.now }
 {
     is_copied_array(program, region, name) || is_wrong_variable(region, name)
 }
 
-pub(crate) fn listed_rule(program: &Program, region: &Region<'_>, name: &Name) -> Option<Rule>
+pub(crate) fn listed_rule(program: &Indexed<'_>, region: &Region<'_>, name: &Name) -> Option<Rule>
     ensures { result ≡ firsts.listed_rule program.now (region_of region.now) name.now }
 {
-    if !is_declared(program.decls.as_slice(), name) {
+    if !program.is_declared(name) {
         return Some(Rule::Undeclared);
     }
     if is_private_and_no_local(program, region, name) {
@@ -156,16 +144,20 @@ pub(crate) fn directive_rule(region: &Region<'_>) -> Option<Rule>
     None
 }
 
-fn is_no_variable(program: &Program, around: &Around<'_, '_>, name: &Name) -> bool
+fn is_no_variable(program: &Indexed<'_>, around: &Around<'_, '_>, name: &Name) -> bool
     ensures { result ≡ not (typed.is_local_index_scalar program.now name.now) || sharing.has_name name.now (names_in around.now.vars.now) }
 {
     !is_local_index_scalar(program, name) || around.vars.has(name)
 }
 
-pub(crate) fn variable_rule(program: &Program, around: &Around<'_, '_>, name: &Name) -> Option<Rule>
+pub(crate) fn variable_rule(
+    program: &Indexed<'_>,
+    around: &Around<'_, '_>,
+    name: &Name,
+) -> Option<Rule>
     ensures { result ≡ firsts.variable_rule program.now (around_of around.now) name.now }
 {
-    if !is_declared(program.decls.as_slice(), name) {
+    if !program.is_declared(name) {
         return Some(Rule::Undeclared);
     }
     if is_no_variable(program, around, name) {
@@ -174,22 +166,22 @@ pub(crate) fn variable_rule(program: &Program, around: &Around<'_, '_>, name: &N
     None
 }
 
-fn shape_rule(program: &Program, name: &Name, count: usize) -> Option<Rule>
+fn shape_rule(program: &Indexed<'_>, name: &Name, count: usize) -> Option<Rule>
     ensures { result ≡ firsts.shape_rule program.now name.now count }
 {
-    if !is_declared(program.decls.as_slice(), name) {
+    if !program.is_declared(name) {
         return Some(Rule::Undeclared);
     }
-    if !has_rank(program.decls.as_slice(), name, count) {
+    if !program.has_rank(name, count) {
         return Some(Rule::Rank);
     }
     None
 }
 
-fn is_out(program: &Program, around: &Around<'_, '_>, name: &Name) -> bool
+fn is_out(program: &Indexed<'_>, around: &Around<'_, '_>, name: &Name) -> bool
     ensures { result ≡ firsts.is_out program.now (around_of around.now) name.now }
 {
-    if !is_private_name(program, name) {
+    if !program.is_private(name) {
         return false;
     }
     if around.vars.has(name) {
@@ -198,7 +190,7 @@ fn is_out(program: &Program, around: &Around<'_, '_>, name: &Name) -> bool
     !is_own_in(&around.parallel, name)
 }
 
-fn is_out_or_first(program: &Program, around: &Around<'_, '_>, name: &Name) -> bool
+fn is_out_or_first(program: &Indexed<'_>, around: &Around<'_, '_>, name: &Name) -> bool
     ensures { result ≡ firsts.is_out program.now (around_of around.now) name.now || rows.is_first_in (optional_region around.now.parallel) name.now }
 {
     is_out(program, around, name) || is_first_in(&around.parallel, name)
@@ -219,13 +211,13 @@ fn is_other_use(around: &Around<'_, '_>, name: &Name) -> bool
     is_plus_in(&around.parallel, name) && !is_name_of(&around.own, name)
 }
 
-fn assigning_rule(program: &Program, around: &Around<'_, '_>, name: &Name) -> Option<Rule>
+fn assigning_rule(program: &Indexed<'_>, around: &Around<'_, '_>, name: &Name) -> Option<Rule>
     ensures { result ≡ firsts.assigning_rule program.now (around_of around.now) name.now }
 {
     if is_read_only_argument(program, name) {
         return Some(Rule::IntentIn);
     }
-    if is_varying(program, name) {
+    if program.is_varying(name) {
         return Some(Rule::LoopVarUse);
     }
     if is_out_or_first(program, around, name) {
@@ -241,7 +233,7 @@ fn assigning_rule(program: &Program, around: &Around<'_, '_>, name: &Name) -> Op
 }
 
 pub(crate) fn target_rule(
-    program: &Program,
+    program: &Indexed<'_>,
     around: &Around<'_, '_>,
     name: &Name,
     count: usize,
@@ -279,14 +271,14 @@ fn atomic_rule(ends: Ends) -> Option<Rule>
 }
 
 /// Whether a loop's variable stands outside its loops.
-fn is_outside(program: &Program, around: &Around<'_, '_>, name: &Name) -> bool
+fn is_outside(program: &Indexed<'_>, around: &Around<'_, '_>, name: &Name) -> bool
     ensures { result ≡ rows.is_varying program.now name.now && not (sharing.has_name name.now (names_in around.now.vars.now)) }
 {
-    is_varying(program, name) && !around.vars.has(name)
+    program.is_varying(name) && !around.vars.has(name)
 }
 
 fn standing_rule(
-    program: &Program,
+    program: &Indexed<'_>,
     around: &Around<'_, '_>,
     ends: Ends,
     name: &Name,
@@ -314,7 +306,12 @@ fn standing_rule(
     None
 }
 
-fn behind_shape(program: &Program, around: &Around<'_, '_>, ends: Ends, name: &Name) -> Option<Rule>
+fn behind_shape(
+    program: &Indexed<'_>,
+    around: &Around<'_, '_>,
+    ends: Ends,
+    name: &Name,
+) -> Option<Rule>
     ensures { result ≡ firsts.or_later (firsts.ends_rule ends) (firsts.standing_rule program.now (around_of around.now) ends name.now) }
 {
     match ends_rule(ends) {
@@ -324,7 +321,7 @@ fn behind_shape(program: &Program, around: &Around<'_, '_>, ends: Ends, name: &N
 }
 
 pub(crate) fn use_rule(
-    program: &Program,
+    program: &Indexed<'_>,
     around: &Around<'_, '_>,
     ends: Ends,
     name: &Name,

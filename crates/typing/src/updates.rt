@@ -10,9 +10,9 @@ ghost use Rattle.fl_types.specs.Sharing.{is_ring_name as is_ring_name_lem};
 ghost use Rattle.typing.specs.Firsts as firsts;
 ghost use Rattle.typing.specs.Updates as updates;
 
-use crate::names::is_ring_name;
-use fl_ast::{BinOp, Expr, Name, Place, Program};
+use fl_ast::{BinOp, Expr, Name, Place};
 use fl_types::{IncrementForm, increment_form};
+use known_names::Indexed;
 
 fn is_target(value: &Expr, target: &Place) -> bool
     ensures { result ≡ same_expression (target_of (place_tree target.now)) (expr_tree value.now) }
@@ -52,10 +52,10 @@ fn is_long_chain(value: &Expr, target: &Place) -> bool
 
 /// Whether an atomic update can't do the assignment: it is no increment, or one by several terms with a minus sign.
 #[tactic(auto, using(crate::proofs::Terms::no_form, crate::proofs::Trees::places))]
-pub(crate) fn is_no_update(program: &Program, target: &Place, value: &Expr) -> bool
+pub(crate) fn is_no_update(program: &Indexed<'_>, target: &Place, value: &Expr) -> bool
     ensures { result ≡ rows.is_no_update (increment_terms (is_ring_name_lem program.now.decls) (place_tree target.now) (expr_tree value.now)) }
 {
-    if !is_ring_name(program.decls.as_slice(), &target.name) {
+    if !program.is_data(&target.name) {
         return true;
     }
     match increment_form(target, value) {
@@ -67,10 +67,10 @@ pub(crate) fn is_no_update(program: &Program, target: &Place, value: &Expr) -> b
 
 /// The target's name, where the assignment is an increment.
 #[tactic(auto, using(crate::proofs::Terms::no_form, crate::proofs::Trees::places))]
-pub(crate) fn own_of<'a>(program: &Program, target: &'a Place, value: &Expr) -> Option<&'a Name>
+pub(crate) fn own_of<'a>(program: &Indexed<'_>, target: &'a Place, value: &Expr) -> Option<&'a Name>
     ensures { option_copied result ≡ firsts.own_of program.now (place_tree target.now) (expr_tree value.now) }
 {
-    if !is_ring_name(program.decls.as_slice(), &target.name) {
+    if !program.is_data(&target.name) {
         return None;
     }
     match increment_form(target, value) {

@@ -14,7 +14,8 @@ use crate::rules::{
     directive_rule, exponent_rule, listed_rule, number_rule, target_rule, use_rule, variable_rule,
 };
 use crate::updates::own_of;
-use fl_ast::{Arm, Cond, Expr, Name, Place, Program, Stmt};
+use fl_ast::{Arm, Cond, Expr, Name, Place, Stmt};
+use known_names::Indexed;
 
 pub(crate) fn told<'a>(line: u32, name: &'a [u8], rule: Option<Rule>) -> Option<Fault<'a>>
     ensures { optional_told result ≡ firsts.told line name.now rule }
@@ -35,7 +36,7 @@ fn at_number<'a>(line: u32, rule: Option<Rule>) -> Option<Fault<'a>>
 /// The fault at a name with subscripts, without those in them.
 fn at_use<'t>(
     place: &'t Place,
-    program: &Program,
+    program: &Indexed<'_>,
     around: &Around<'_, 't>,
     ends: Ends,
 ) -> Option<Fault<'t>>
@@ -52,7 +53,7 @@ fn at_use<'t>(
 #[cycle(walk)]
 fn in_expression<'t>(
     expr: &'t Expr,
-    program: &Program,
+    program: &Indexed<'_>,
     around: &Around<'_, 't>,
     ends: Ends,
 ) -> Option<Fault<'t>>
@@ -87,7 +88,7 @@ fn in_expression<'t>(
 #[cycle(walk)]
 fn in_place<'t>(
     place: &'t Place,
-    program: &Program,
+    program: &Indexed<'_>,
     around: &Around<'_, 't>,
     ends: Ends,
 ) -> Option<Fault<'t>>
@@ -103,7 +104,7 @@ fn in_place<'t>(
 #[cycle(walk)]
 fn in_subscripts<'t>(
     exprs: &'t [Expr],
-    program: &Program,
+    program: &Indexed<'_>,
     around: &Around<'_, 't>,
     ends: Ends,
 ) -> Option<Fault<'t>>
@@ -122,7 +123,7 @@ fn in_subscripts<'t>(
 #[cycle(walk)]
 fn in_arguments<'t>(
     exprs: &'t [Expr],
-    program: &Program,
+    program: &Indexed<'_>,
     around: &Around<'_, 't>,
     ends: Ends,
 ) -> Option<Fault<'t>>
@@ -138,7 +139,11 @@ fn in_arguments<'t>(
     None
 }
 
-fn in_condition<'t>(cond: &'t Cond, program: &Program, around: &Around<'_, 't>) -> Option<Fault<'t>>
+fn in_condition<'t>(
+    cond: &'t Cond,
+    program: &Indexed<'_>,
+    around: &Around<'_, 't>,
+) -> Option<Fault<'t>>
     ensures { optional_told result ≡ firsts.first_in_condition program.now (around_of around.now) (cond_tree cond.now) }
 {
     match cond {
@@ -168,7 +173,11 @@ fn in_condition<'t>(cond: &'t Cond, program: &Program, around: &Around<'_, 't>) 
 }
 
 #[tactic(auto, using(crate::proofs::Trees::count_length))]
-fn in_target<'t>(target: &'t Place, program: &Program, around: &Around<'_, 't>) -> Option<Fault<'t>>
+fn in_target<'t>(
+    target: &'t Place,
+    program: &Indexed<'_>,
+    around: &Around<'_, 't>,
+) -> Option<Fault<'t>>
     ensures { optional_told result ≡ firsts.first_in_target program.now (around_of around.now) target.now.name (expr_trees target.now.subscripts) }
 {
     let subscripts = target.subscripts.as_slice();
@@ -190,7 +199,7 @@ fn in_assignment<'t>(
     value: &'t Expr,
     line: u32,
     atomic: bool,
-    program: &Program,
+    program: &Indexed<'_>,
     around: &Around<'_, 't>,
 ) -> Option<Fault<'t>>
     ensures { optional_told result ≡ firsts.first_in_assignment program.now (around_of around.now) line atomic (place_tree target.now) (expr_tree value.now) }
@@ -209,7 +218,7 @@ fn in_assignment<'t>(
     in_expression(value, program, &inner, ends)
 }
 
-fn in_bound<'t>(expr: &'t Expr, program: &Program, around: &Around<'_, 't>) -> Option<Fault<'t>>
+fn in_bound<'t>(expr: &'t Expr, program: &Indexed<'_>, around: &Around<'_, 't>) -> Option<Fault<'t>>
     ensures { optional_told result ≡ firsts.first_in_bound program.now (around_of around.now) (expr_tree expr.now) }
 {
     in_expression(expr, program, around, as_index(program, expr, NOTHING))
@@ -217,7 +226,7 @@ fn in_bound<'t>(expr: &'t Expr, program: &Program, around: &Around<'_, 't>) -> O
 
 fn in_step<'t>(
     step: &'t Option<Expr>,
-    program: &Program,
+    program: &Indexed<'_>,
     around: &Around<'_, 't>,
 ) -> Option<Fault<'t>>
     ensures { optional_told result ≡ firsts.first_in_step program.now (around_of around.now) (step_tree step.now) }
@@ -233,7 +242,7 @@ fn in_head<'t>(
     first: &'t Expr,
     last: &'t Expr,
     step: &'t Option<Expr>,
-    program: &Program,
+    program: &Indexed<'_>,
     around: &Around<'_, 't>,
 ) -> Option<Fault<'t>>
     ensures { optional_told result ≡ firsts.first_in_head program.now (around_of around.now) var.now (expr_tree first.now) (expr_tree last.now) (step_tree step.now) }
@@ -257,7 +266,7 @@ fn in_head<'t>(
     in_step(step, program, around)
 }
 
-fn in_list<'t>(names: &'t [Name], program: &Program, region: &Region<'_>) -> Option<Fault<'t>>
+fn in_list<'t>(names: &'t [Name], program: &Indexed<'_>, region: &Region<'_>) -> Option<Fault<'t>>
     ensures { optional_told result ≡ firsts.first_in_list program.now (region_of region.now) names.now }
 {
     for name in names {
@@ -273,7 +282,7 @@ fn in_list<'t>(names: &'t [Name], program: &Program, region: &Region<'_>) -> Opt
     None
 }
 
-fn in_clauses<'t>(region: &Region<'t>, program: &Program) -> Option<Fault<'t>>
+fn in_clauses<'t>(region: &Region<'t>, program: &Indexed<'_>) -> Option<Fault<'t>>
     ensures { optional_told result ≡ firsts.first_in_clauses program.now (region_of region.now) }
 {
     let directive = region.directive;
@@ -296,7 +305,7 @@ fn in_clauses<'t>(region: &Region<'t>, program: &Program) -> Option<Fault<'t>>
     at_number(directive.line, directive_rule(region))
 }
 
-fn in_directive<'t>(parallel: &Option<Region<'t>>, program: &Program) -> Option<Fault<'t>>
+fn in_directive<'t>(parallel: &Option<Region<'t>>, program: &Indexed<'_>) -> Option<Fault<'t>>
     ensures { optional_told result ≡ firsts.first_in_directive program.now (optional_region parallel.now) }
 {
     match parallel {
@@ -306,7 +315,11 @@ fn in_directive<'t>(parallel: &Option<Region<'t>>, program: &Program) -> Option<
 }
 
 #[cycle(statements)]
-fn in_statement<'t>(stmt: &'t Stmt, program: &Program, around: &Around<'_, 't>) -> Option<Fault<'t>>
+fn in_statement<'t>(
+    stmt: &'t Stmt,
+    program: &Indexed<'_>,
+    around: &Around<'_, 't>,
+) -> Option<Fault<'t>>
     ensures { optional_told result ≡ firsts.first_in_statement program.now (around_of around.now) (stmt_tree stmt.now) }
 {
     match stmt {
@@ -356,7 +369,7 @@ fn in_statement<'t>(stmt: &'t Stmt, program: &Program, around: &Around<'_, 't>) 
 #[cycle(statements)]
 pub(crate) fn in_statements<'t>(
     stmts: &'t [Stmt],
-    program: &Program,
+    program: &Indexed<'_>,
     around: &Around<'_, 't>,
 ) -> Option<Fault<'t>>
     ensures { optional_told result ≡ firsts.first_in_statements program.now (around_of around.now) (stmt_trees stmts.now) }
@@ -373,7 +386,7 @@ pub(crate) fn in_statements<'t>(
 fn in_test<'t>(
     test: &'t Cond,
     line: u32,
-    program: &Program,
+    program: &Indexed<'_>,
     around: &Around<'_, 't>,
 ) -> Option<Fault<'t>>
     ensures { optional_told result ≡ firsts.first_in_condition program.now (firsts.at_line (around_of around.now) line) (cond_tree test.now) }
@@ -386,7 +399,7 @@ fn in_test<'t>(
 fn in_arms<'t>(
     arms: &'t [Arm],
     line: u32,
-    program: &Program,
+    program: &Indexed<'_>,
     around: &Around<'_, 't>,
 ) -> Option<Fault<'t>>
     ensures { optional_told result ≡ firsts.first_in_arms program.now (around_of around.now) line (arm_trees arms.now) }

@@ -8,9 +8,10 @@ ghost use Rattle.typing.specs.Views.{optional_told};
 use crate::around::{Around, Fault, Vars};
 use crate::rules::{argument_rule, bounding_rule, declared_rule, unit_rule};
 use crate::walk::{in_statements, told};
-use fl_ast::{Bound, Decl, Dim, Factor, Name, Program, Sign, Term};
+use fl_ast::{Bound, Decl, Dim, Factor, Name, Sign, Term};
+use known_names::Indexed;
 
-fn in_factor<'t>(factor: &'t Factor, line: u32, program: &Program) -> Option<Fault<'t>>
+fn in_factor<'t>(factor: &'t Factor, line: u32, program: &Indexed<'_>) -> Option<Fault<'t>>
     ensures { optional_told result ≡ firsts.first_in_factor program.now line factor.now }
 {
     match factor {
@@ -19,7 +20,7 @@ fn in_factor<'t>(factor: &'t Factor, line: u32, program: &Program) -> Option<Fau
     }
 }
 
-fn in_second<'t>(second: &'t Option<Factor>, line: u32, program: &Program) -> Option<Fault<'t>>
+fn in_second<'t>(second: &'t Option<Factor>, line: u32, program: &Indexed<'_>) -> Option<Fault<'t>>
     ensures { optional_told result ≡ firsts.first_in_second program.now line second.now }
 {
     match second {
@@ -28,7 +29,7 @@ fn in_second<'t>(second: &'t Option<Factor>, line: u32, program: &Program) -> Op
     }
 }
 
-fn in_term<'t>(term: &'t Term, line: u32, program: &Program) -> Option<Fault<'t>>
+fn in_term<'t>(term: &'t Term, line: u32, program: &Indexed<'_>) -> Option<Fault<'t>>
     ensures { optional_told result ≡ firsts.first_in_term program.now line term.now }
 {
     let found = in_factor(&term.first, line, program);
@@ -38,7 +39,11 @@ fn in_term<'t>(term: &'t Term, line: u32, program: &Program) -> Option<Fault<'t>
     in_second(&term.second, line, program)
 }
 
-fn in_rest<'t>(rest: &'t Option<(Sign, Term)>, line: u32, program: &Program) -> Option<Fault<'t>>
+fn in_rest<'t>(
+    rest: &'t Option<(Sign, Term)>,
+    line: u32,
+    program: &Indexed<'_>,
+) -> Option<Fault<'t>>
     ensures { optional_told result ≡ firsts.first_in_rest program.now line rest.now }
 {
     match rest {
@@ -47,7 +52,7 @@ fn in_rest<'t>(rest: &'t Option<(Sign, Term)>, line: u32, program: &Program) -> 
     }
 }
 
-fn in_extent<'t>(bound: &'t Bound, line: u32, program: &Program) -> Option<Fault<'t>>
+fn in_extent<'t>(bound: &'t Bound, line: u32, program: &Indexed<'_>) -> Option<Fault<'t>>
     ensures { optional_told result ≡ firsts.first_in_extent program.now line bound.now }
 {
     let found = in_term(&bound.first, line, program);
@@ -57,7 +62,7 @@ fn in_extent<'t>(bound: &'t Bound, line: u32, program: &Program) -> Option<Fault
     in_rest(&bound.rest, line, program)
 }
 
-fn in_lower<'t>(lower: &'t Option<Bound>, line: u32, program: &Program) -> Option<Fault<'t>>
+fn in_lower<'t>(lower: &'t Option<Bound>, line: u32, program: &Indexed<'_>) -> Option<Fault<'t>>
     ensures { optional_told result ≡ firsts.first_in_lower program.now line lower.now }
 {
     match lower {
@@ -66,7 +71,7 @@ fn in_lower<'t>(lower: &'t Option<Bound>, line: u32, program: &Program) -> Optio
     }
 }
 
-fn in_dims<'t>(dims: &'t [Dim], line: u32, program: &Program) -> Option<Fault<'t>>
+fn in_dims<'t>(dims: &'t [Dim], line: u32, program: &Indexed<'_>) -> Option<Fault<'t>>
     ensures { optional_told result ≡ firsts.first_in_dims program.now line dims.now }
 {
     for dim in dims {
@@ -82,7 +87,7 @@ fn in_dims<'t>(dims: &'t [Dim], line: u32, program: &Program) -> Option<Fault<'t
     None
 }
 
-fn in_decl<'t>(decl: &'t Decl, earlier: &[Decl], program: &Program) -> Option<Fault<'t>>
+fn in_decl<'t>(decl: &'t Decl, earlier: &[Decl], program: &Indexed<'_>) -> Option<Fault<'t>>
     ensures { optional_told result ≡ firsts.first_in_decl program.now earlier.now decl.now }
 {
     let rule = declared_rule(program, earlier, decl);
@@ -93,7 +98,7 @@ fn in_decl<'t>(decl: &'t Decl, earlier: &[Decl], program: &Program) -> Option<Fa
     in_dims(decl.dims.as_slice(), decl.line, program)
 }
 
-fn in_decls<'t>(decls: &'t [Decl], program: &Program) -> Option<Fault<'t>>
+fn in_decls<'t>(decls: &'t [Decl], program: &Indexed<'_>) -> Option<Fault<'t>>
     ensures { optional_told result ≡ firsts.first_in_decls program.now [] decls.now }
 {
     for (i, decl) in decls.iter().enumerate() {
@@ -105,7 +110,7 @@ fn in_decls<'t>(decls: &'t [Decl], program: &Program) -> Option<Fault<'t>>
     None
 }
 
-fn in_args<'t>(args: &'t [Name], line: u32, program: &Program) -> Option<Fault<'t>>
+fn in_args<'t>(args: &'t [Name], line: u32, program: &Indexed<'_>) -> Option<Fault<'t>>
     ensures { optional_told result ≡ firsts.first_in_args program.now line [] args.now }
 {
     for (i, arg) in args.iter().enumerate() {
@@ -117,33 +122,35 @@ fn in_args<'t>(args: &'t [Name], line: u32, program: &Program) -> Option<Fault<'
     None
 }
 
-fn in_body<'t>(program: &'t Program) -> Option<Fault<'t>>
+fn in_body<'t>(program: &Indexed<'t>) -> Option<Fault<'t>>
     ensures { optional_told result ≡ firsts.first_in_statements program.now (firsts.at_unit program.now.line) (stmt_trees program.now.body) }
 {
+    let tree = program.program();
     let around = Around {
-        line: program.line,
+        line: tree.line,
         vars: &Vars::Outside,
         parallel: None,
         in_nest: false,
         own: None,
         subscript_of: None,
     };
-    in_statements(program.body.as_slice(), program, &around)
+    in_statements(tree.body.as_slice(), program, &around)
 }
 
 /// The first fault of the program.
-pub(crate) fn first_fault<'t>(program: &'t Program) -> Option<Fault<'t>>
+pub(crate) fn first_fault<'t>(program: &Indexed<'t>) -> Option<Fault<'t>>
     ensures { optional_told result ≡ firsts.first_in_program program.now }
 {
-    let found = told(program.line, program.name.bytes(), unit_rule(&program.name));
+    let tree = program.program();
+    let found = told(tree.line, tree.name.bytes(), unit_rule(&tree.name));
     if found.is_some() {
         return found;
     }
-    let found = in_args(program.args.as_slice(), program.line, program);
+    let found = in_args(tree.args.as_slice(), tree.line, program);
     if found.is_some() {
         return found;
     }
-    let found = in_decls(program.decls.as_slice(), program);
+    let found = in_decls(tree.decls.as_slice(), program);
     if found.is_some() {
         return found;
     }

@@ -6,4 +6,4 @@ use Rattle.typing.proofs.kinds.+kind.Given as goal
 -- those that are left answer as all do
 abbrev pub invariant-widest-loop-arg : goal.invariant-widest-loop-arg
 invariant-widest-loop-arg l =
-    widest_kind (kinds_of_expressions (declared_names l.decls) (expr_trees (drop l.arg-index l.args))) ≡ widest_kind (kinds_of_expressions (declared_names l.decls) (expr_trees l.args))
+    widest_kind (kinds_of_expressions (declared_names l.program.decls) (expr_trees (drop l.arg-index l.args))) ≡ widest_kind (kinds_of_expressions (declared_names l.program.decls) (expr_trees l.args))

@@ -1,0 +1,7 @@
+use Rattle.std.proofs.Common.{◌≡◌, not, ◌&&◌, ◌||◌, List, ℕ, drop}
+use Rattle.fl_types.specs.Sharing.{has_name}
+use Rattle.known_names.proofs.marks.mark_others.Given as goal
+
+-- with those of the rest all are there
+abbrev pub invariant-loop-name : goal.invariant-loop-name
+invariant-loop-name l = (x : List ℕ) → ((has_name x (drop l.name-index l.names) && not (has_name x l.others)) || has_name x l.keys) ≡ ((has_name x l.names && not (has_name x l.others)) || has_name x l.fn.keys)
