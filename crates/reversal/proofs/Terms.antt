@@ -31,7 +31,7 @@ longer_is : (o : Option (List Signed)) (r : Signed) (rs : List Signed) → longe
 longer_is None r rs e = absurd (grind (arith, e))
 longer_is (Some qs) r rs e = (qs, refl, sym (is_some_of _ _ e))
 
-goes : (t a b : Expression) (s : Bool) (rs : List Signed) → (if same_expression t a then Some ((s, b) ∷ []) else longer (chain t a) (s, b)) ≡ Some rs → Goes t a b s rs
+pub goes : (t a b : Expression) (s : Bool) (rs : List Signed) → (if same_expression t a then Some ((s, b) ∷ []) else longer (chain t a) (s, b)) ≡ Some rs → Goes t a b s rs
 goes t a b s rs = by_test (same_expression t a) refl
   where
     by_test : (c : Bool) → same_expression t a ≡ c → (if c then Some ((s, b) ∷ []) else longer (chain t a) (s, b)) ≡ Some rs → Goes t a b s rs
@@ -116,7 +116,7 @@ never_empty t a b s g = by_test g.others g.terms
     by_test true h = grind (arith, h)
     by_test false h = no_end h.0 (s, b) h.2
 
-not_empty : (t e : Expression) → chain t e ≡ Some [] → ⊥
+pub not_empty : (t e : Expression) → chain t e ≡ Some [] → ⊥
 not_empty t (literal n k) h = grind (arith, h)
 not_empty t (get x s) h = grind (arith, h)
 not_empty t (minus a) h = grind (arith, h)

@@ -2,10 +2,12 @@
 #![tactic(auto)]
 
 mod chain;
+mod class;
 mod declare;
 mod expression;
 mod factor;
 mod growth;
+mod increment;
 mod name;
 mod plain;
 mod scope;

@@ -36,7 +36,7 @@ fn popped(alloc: Global, scope: &Scope<'_>, line: u32, place: &Place) -> Result<
 }
 
 /// The assignment as it stands.
-fn kept(
+pub fn kept(
     alloc: Global,
     line: u32,
     atomic: bool,
@@ -74,7 +74,7 @@ pub fn push_forward_plain(
     forward.push(kept(alloc, line, atomic, target, value)?)
 }
 
-fn taken(alloc: Global, line: u32, target: &Place) -> Result<AStmt, Memory>
+pub fn taken(alloc: Global, line: u32, target: &Place) -> Result<AStmt, Memory>
     ensures { IfOk result (λ s. astmt_tree s ≡ rules.taken line (place_tree target.now)) }
 {
     let adjoint = adjoint_place(alloc, target)?;

@@ -4,6 +4,7 @@ ghost use Rattle.std.specs.Prelude.{◌≡◌, IfOk};
 ghost use Rattle.fl_ast.specs.Tree.{expr_tree};
 ghost use Rattle.reversal.specs.Places.{scope_of, number_of, key_of};
 
+use crate::class::{is_plus, is_ring, sharing};
 use crate::growth::Growth;
 use crate::name::{has_name, main_tape, value};
 use fl_ast::{Decl, Directive, Expr, Name, Stmt};
@@ -41,6 +42,22 @@ impl<'a> Scope<'a> {
         ensures { result ≡ (scope_of self.now).needed name.now }
     {
         has_name(name, self.needed.names.as_slice())
+    }
+
+    pub fn is_ring(&self, name: &Name) -> bool
+        ensures { result ≡ (scope_of self.now).ring name.now }
+    {
+        is_ring(self.decls, name)
+    }
+
+    /// Whether the name is a reduction's of the parallel loop around.
+    pub fn is_reduced(&self, name: &Name) -> bool
+        ensures { result ≡ (scope_of self.now).pluses name.now }
+    {
+        match &self.region {
+            None => false,
+            Some(region) => is_plus(sharing(region.var, region.directive, region.body, name)),
+        }
     }
 
     /// The key of the tape: an iteration's number in a parallel loop.
