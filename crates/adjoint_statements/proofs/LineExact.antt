@@ -106,11 +106,11 @@ module _ (l : Freed) (limits wide : Limits) (V : Widths l limits wide) where
   key_exact = mark_then s.Open _ _ _ (λ _. seq argument_exact (λ e. mark_then s.Comma _ _ _ (λ _. pure_exact e))
       (λ e. meets (same s.Comma) binds never _ (begins_seq _ (begins_mark s.Comma)) refl refl))
 
-  call_end_exact : Exact l (g.call_end limits) never (p.call_end limits) (p.call_end wide)
+  call_end_exact : Exact l g.call_end never p.call_end p.call_end
   unfolding g.call_end p.call_end
   call_end_exact = mark_then s.Close _ _ _ (λ _. mark_exact s.LineEnd)
 
-  call_end_begins : Begins (g.call_end limits) (is s.Close)
+  call_end_begins : Begins g.call_end (is s.Close)
   unfolding g.call_end
   call_end_begins = begins_seq _ (begins_mark s.Close)
 

@@ -23,6 +23,12 @@ use Rattle.adjoint_statements.specs.declared.branch.Branch.{Branch}
 use Rattle.adjoint_statements.specs.Rooms.{narrower}
 use Rattle.adjoint_statements.specs.Trees.{block_from, next_loop, assigned, pushed, popped, opened, closed, parts_of, looped, ended, first_branch, with_arm, with_other, branched}
 
+-- ")" eol
+unfoldable pub call_end : Grammar ℕ
+call_end = do
+  close ← one (marked s.Close)
+  one (marked s.LineEnd)
+
 module _ (limits : Limits) where
   -- ---- assignments
 
@@ -60,12 +66,6 @@ module _ (limits : Limits) where
     e ← argument
     comma ← one (marked s.Comma)
     gives e
-
-  -- ")" eol
-  unfoldable pub call_end : Grammar ℕ
-  call_end = do
-    close ← one (marked s.Close)
-    one (marked s.LineEnd)
 
   -- expr ")" eol
   unfoldable pub last_argument : Grammar Measured

@@ -29,6 +29,11 @@ use Rattle.adjoint_statements.specs.Trees.{block_from, next_loop, assigned, push
 abbrev pub begins_stmt : Symbol → Bool
 begins_stmt a = names a || (same s.Do a || (same s.If a || (same s.Call a || same s.Sentinel a)))
 
+unfoldable pub call_end : Parser ℕ
+call_end = do
+  close ← token (marked s.Close)
+  token (marked s.LineEnd)
+
 module _ (limits : Limits) where
   -- ---- assignments
 
@@ -61,11 +66,6 @@ module _ (limits : Limits) where
     e ← argument
     comma ← token (marked s.Comma)
     pure e
-
-  unfoldable pub call_end : Parser ℕ
-  call_end = do
-    close ← token (marked s.Close)
-    token (marked s.LineEnd)
 
   unfoldable pub last_argument : Parser Measured
   last_argument = do
