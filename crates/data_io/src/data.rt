@@ -3,10 +3,11 @@ ghost use Rattle.data_io.specs.declared.data.DataError.TheVariants.{Memory as me
 
 use fl_base::{Memory, Name};
 use std::alloc::{AllocError, AllocFailed};
+use std::fmt;
 use thiserror::Error;
 
 /// Why a file of numbers was refused. `at` counts elements from 1, and is 0 for the whole of a name's value.
-#[derive(Debug, Drop, Error)]
+#[derive(Drop, Error)]
 pub enum DataError {
     #[error("the bytes are no JSON")]
     NotJson,
@@ -26,6 +27,12 @@ pub enum DataError {
     TooManySteps,
     #[error("memory was wanting")]
     Memory,
+}
+
+impl fmt::Debug for DataError {
+    fn fmt<W: fmt::Write>(&self, f: &mut fmt::Formatter<W>) -> fmt::Result {
+        write!(f, "{self}")
+    }
 }
 
 impl From<AllocError> for DataError {

@@ -38,19 +38,19 @@ use Rattle.fl_parser.proofs.Units.{unit_exact}
 same_limit : (cause : Cause) (d : Limit) → Frees Nothing cause d d
 same_limit cause d = record { stays = λ _. refl; goes = λ h. differ true refl (sym h) }
 
-kept : (l : Freed) (cause : Cause) (d : Limit) → frees l cause ≡ false → Frees l cause d d
+pub kept : (l : Freed) (cause : Cause) (d : Limit) → frees l cause ≡ false → Frees l cause d d
 kept l cause d f = record { stays = λ _. refl; goes = λ h. differ (frees l cause) h f }
 
-gone : (l : Freed) (cause : Cause) (d : Limit) → frees l cause ≡ true → Frees l cause d None
+pub gone : (l : Freed) (cause : Cause) (d : Limit) → frees l cause ≡ true → Frees l cause d None
 gone l cause d t = record { stays = λ f. differ (frees l cause) t f; goes = λ _. refl }
 
-more : (l : Freed) (b b2 : ℕ) → frees l Deep ≡ true → b < b2 → More l b b2
+pub more : (l : Freed) (b b2 : ℕ) → frees l Deep ≡ true → b < b2 → More l b b2
 more l b b2 t h = record { stays = λ f. differ (frees l Deep) t f; goes = λ _. h }
 
-same_number : (l : Freed) (b : ℕ) → frees l Deep ≡ false → More l b b
+pub same_number : (l : Freed) (b : ℕ) → frees l Deep ≡ false → More l b b
 same_number l b f = record { stays = λ _. refl; goes = λ h. differ (frees l Deep) h f }
 
-same_once : (l : Freed) (once : Bool) → frees l Twice ≡ false → Onces l once once
+pub same_once : (l : Freed) (once : Bool) → frees l Twice ≡ false → Onces l once once
 same_once l once f = record { stays = λ _. refl; goes = λ h. differ (frees l Twice) h f }
 
 at_all : (limits : Limits) → nat_lt 0 limits.brackets ≡ true → Widens Nothing limits limits
@@ -97,7 +97,7 @@ to_repeated = record {
   once = record { stays = λ h. differ true refl h; goes = λ _. refl };
 }
 
-some_brackets : (b : ℕ) → 256 < b → nat_lt 0 b ≡ true
+pub some_brackets : (b : ℕ) → 256 < b → nat_lt 0 b ≡ true
 some_brackets b h = grind (arith, nat_tests)
 
 reads_limits : Exact Nothing (g.unit the_limits) never (p.unit the_limits) (p.unit the_limits)

@@ -212,7 +212,7 @@ intent_opens = opens_or _ _ (on intents) (opens_begins _ (on intents) (begins_in
 abbrev heads : Symbol → Bool
 heads a = cond (intents a) true (names a)
 
-opens_in : {A : Type 0} (f h : Symbol → Bool) (N : Grammar A) → Opens N (on f) → ((ts : Lexemes) → sees (on f) ts ≡ true → sees (on h) ts ≡ true) → Opens N (on h)
+pub opens_in : {A : Type 0} (f h : Symbol → Bool) (N : Grammar A) → Opens N (on f) → ((ts : Lexemes) → sees (on f) ts ≡ true → sees (on h) ts ≡ true) → Opens N (on h)
 opens_in f h N o wide x us rest n = elim (o x us rest n) [ inl e ↦ inl e | inr e ↦ inr (wide (us ++ rest) e) ]
 
 opens_heads : Opens g.intent (on heads)
@@ -281,13 +281,13 @@ module _ (l : Freed) (limits wide : Limits) (W : Widens l limits wide) where
   decl_bites ds = bites_mark s.Integer _ (λ line. shrinks_seq _ _ ((kind_exact l).shrinks) (λ k. shrinks_seq _ _ ((intent_exact l).shrinks) (λ i. shrinks_seq _ _ ((item_exact l line k i ds).shrinks)
       (λ first. shrinks_seq _ _ ((items_exact line k i first).shrinks) (λ found. shrinks_seq _ _ (shrinks_token _) (λ _. shrinks_pure found))))))
 
-  decls_exact : Exact l (g.decls limits) (is s.Integer) (p.decls limits) (p.decls wide)
+  pub decls_exact : Exact l (g.decls limits) (is s.Integer) (p.decls limits) (p.decls wide)
   unfolding g.decls p.decls
   decls_exact = loop_exact l (is s.Integer) never (is s.Integer) (g.may_declare limits) (g.may_declare wide) Many _ _ _
       (λ ds. room_of W.names (length ds + 1)) decl_exact decl_begins decl_bites
       (λ rest h. sees-never rest) (λ rest h. h) (λ rest h. sees-never rest) []
 
-  decls_open : Opens (g.decls limits) (is s.Integer)
+  pub decls_open : Opens (g.decls limits) (is s.Integer)
   unfolding g.decls
   decls_open = opens_many _ _ (is s.Integer) decl_begins []
 
@@ -358,15 +358,15 @@ end_word_begins : (bytes : List ℕ) → Begins (g.end_word bytes) (is s.End)
 unfolding g.end_word
 end_word_begins bytes = begins_seq _ (begins_mark s.End)
 
-end_unit_exact : (l : Freed) (bytes : List ℕ) → Exact l (g.end_unit bytes) never (p.end_unit bytes) (p.end_unit bytes)
+pub end_unit_exact : (l : Freed) (bytes : List ℕ) → Exact l (g.end_unit bytes) never (p.end_unit bytes) (p.end_unit bytes)
 unfolding g.end_unit p.end_unit
 end_unit_exact l bytes = either (mark_then s.EndSubroutine _ _ _ (λ _. closing_exact l bytes)) (end_word_exact l bytes) (begins_seq _ (begins_mark s.EndSubroutine))
     (meets (same s.End) (same s.EndSubroutine) never _ (end_word_begins bytes) refl refl)
 
-abbrev ends : Symbol → Bool
+abbrev pub ends : Symbol → Bool
 ends = among (s.End ∷ s.EndSubroutine ∷ [])
 
-end_unit_begins : (bytes : List ℕ) → Begins (g.end_unit bytes) (on ends)
+pub end_unit_begins : (bytes : List ℕ) → Begins (g.end_unit bytes) (on ends)
 unfolding g.end_unit
 end_unit_begins bytes = begins_or _ _ (on ends) (begins_in (same s.EndSubroutine) ends _ (begins_seq _ (begins_mark s.EndSubroutine)) refl refl) (begins_in (same s.End) ends _ (end_word_begins bytes) refl refl)
 
@@ -378,7 +378,7 @@ bodies a = cond (ends a) true (begins_stmt a)
 abbrev parts : Symbol → Bool
 parts a = cond (bodies a) true (same s.Integer a)
 
-unit_head_exact : (l : Freed) → Exact l g.unit_head (is s.Implicit) p.unit_head p.unit_head
+pub unit_head_exact : (l : Freed) → Exact l g.unit_head (is s.Implicit) p.unit_head p.unit_head
 unfolding g.unit_head p.unit_head
 unit_head_exact l =
     mark_then s.Subroutine _ _ _ (λ line. seq word_exact (λ x. seq (args_exact l) (λ found. mark_then s.LineEnd _ _ _ (λ _. mapped (implicit_exact l) (λ _. head_of line x found)))

@@ -261,6 +261,7 @@ fn decl(
     Ok(found)
 }
 
+/// The declarations of a unit.
 pub fn decls(alloc: Global, tokens: &mut Cursor<'_>, limits: Limits) -> Result<Items<Decl>, Failure>
     ensures { Reads (spec.decls (limits_of limits) tokens.old) result tokens.new }
 {

@@ -70,13 +70,15 @@ fn end_of(text: &[u8]) -> Position
     Position { line, col }
 }
 
-fn token_at(tokens: &[Token], at: usize) -> Option<Token>
+/// The token with so many before it.
+pub fn token_at(tokens: &[Token], at: usize) -> Option<Token>
     ensures { result ≡ slice_get tokens.now at }
 {
     tokens.get(at).copied()
 }
 
-fn spot_at(text: &[u8], tokens: &[Token], at: usize) -> Position
+/// Where that token is, or the end of the text.
+pub fn spot_at(text: &[u8], tokens: &[Token], at: usize) -> Position
     requires { length text.now + 1 < 2 ^ 32 }
     ensures { result ≡ spec.spot_of text.now (slice_get tokens.now at) }
 {
@@ -90,7 +92,7 @@ fn spot_at(text: &[u8], tokens: &[Token], at: usize) -> Position
 }
 
 /// Whether the token with so many before it is the first of its line.
-fn begins_line(tokens: &[Token], before: usize) -> bool
+pub fn begins_line(tokens: &[Token], before: usize) -> bool
     ensures { result ≡ spec.begins_line tokens.now before }
 {
     if before == 0 {
@@ -186,7 +188,8 @@ fn in_directive(
     Ok(own.unwrap_or(found))
 }
 
-fn cause_at(
+/// The cause, that of the directive itself where the token stands in one.
+pub fn told_apart(
     alloc: Global,
     text: &[u8],
     tokens: &[Token],
@@ -194,11 +197,8 @@ fn cause_at(
     found: Cause,
 ) -> Result<Cause, Memory>
     requires { Are_spans text.now tokens.now }
-    ensures { IfOk result (λ c. c ≡ spec.cause_at text.now tokens.now at found) }
+    ensures { IfOk result (λ c. c ≡ spec.told_apart text.now tokens.now at found) }
 {
-    if begins_line(tokens, at) && names_construct(text, tokens, at) {
-        return Ok(Cause::Construct);
-    }
     match found {
         Cause::Expected => Ok(in_directive(
             alloc,
@@ -212,15 +212,47 @@ fn cause_at(
     }
 }
 
+fn cause_at(
+    alloc: Global,
+    text: &[u8],
+    tokens: &[Token],
+    at: usize,
+    found: Cause,
+) -> Result<Cause, Memory>
+    requires { Are_spans text.now tokens.now }
+    ensures { IfOk result (λ c. c ≡ spec.cause_at text.now tokens.now at found) }
+{
+    if begins_line(tokens, at) && names_construct(text, tokens, at) {
+        return Ok(Cause::Construct);
+    }
+    told_apart(alloc, text, tokens, at, found)
+}
+
 /// The word that stands there, letters lowered.
 #[tactic(auto, using(crate::proofs::Spans::span_at))]
-fn word_at(alloc: Global, text: &[u8], tokens: &[Token], at: usize) -> Result<Name, Memory>
+pub fn word_at(alloc: Global, text: &[u8], tokens: &[Token], at: usize) -> Result<Name, Memory>
     requires { Are_spans text.now tokens.now }
     ensures { IfOk result (λ word. word ≡ spec.word_of text.now (slice_get tokens.now at)) }
 {
     match token_at(tokens, at) {
         Some(token) => lowered_text(alloc, text, token),
         None => Name::of(alloc, b""),
+    }
+}
+
+/// The error of a token of this cause, with its place and its letters.
+pub fn error_by(cause: Cause, spot: Position, word: Name) -> ParseError
+    ensures { result ≡ spec.error_by cause spot word }
+{
+    let Position { line, col } = spot;
+    match cause {
+        Cause::Expected => ParseError::Expected { line, col },
+        Cause::Deep => ParseError::Deep { line },
+        Cause::Many => ParseError::Many { line },
+        Cause::Construct => ParseError::Construct { line, which: word },
+        Cause::Unknown => ParseError::Clause(ClauseError::Unknown { line, word }),
+        Cause::Twice => ParseError::Clause(ClauseError::Twice { line, name: word }),
+        Cause::Form => ParseError::Clause(ClauseError::Form { line }),
     }
 }
 
@@ -235,18 +267,10 @@ fn error_at(
     requires fits { length text.now + 1 < 2 ^ 32 }
     ensures { IfOk result (λ e. e ≡ spec.error_at text.now tokens.now at found) }
 {
-    let Position { line, col } = spot_at(text, tokens, at);
+    let spot = spot_at(text, tokens, at);
     let word = word_at(alloc, text, tokens, at)?;
     let cause = cause_at(alloc, text, tokens, at, found)?;
-    Ok(match cause {
-        Cause::Expected => ParseError::Expected { line, col },
-        Cause::Deep => ParseError::Deep { line },
-        Cause::Many => ParseError::Many { line },
-        Cause::Construct => ParseError::Construct { line, which: word },
-        Cause::Unknown => ParseError::Clause(ClauseError::Unknown { line, word }),
-        Cause::Twice => ParseError::Clause(ClauseError::Twice { line, name: word }),
-        Cause::Form => ParseError::Clause(ClauseError::Form { line }),
-    })
+    Ok(error_by(cause, spot, word))
 }
 
 /// The error of a refused token.

@@ -129,8 +129,9 @@ fn end_word(tokens: &mut Cursor<'_>, name: &Name) -> Result<u32, Failure>
     tokens.mark(Symbol::LineEnd)
 }
 
+/// The last line of the unit of this name.
 #[tactic(auto, unfolding(crate::specs::UnitReading::end_unit))]
-fn end_unit(tokens: &mut Cursor<'_>, name: &Name) -> Result<u32, Failure>
+pub fn end_unit(tokens: &mut Cursor<'_>, name: &Name) -> Result<u32, Failure>
     ensures { Reads (spec.end_unit name.now tokens.old) result tokens.new }
 {
     if tokens.sees(Symbol::EndSubroutine) {
@@ -140,8 +141,9 @@ fn end_unit(tokens: &mut Cursor<'_>, name: &Name) -> Result<u32, Failure>
     end_word(tokens, name)
 }
 
+/// The lines of a unit before its declarations.
 #[tactic(auto, unfolding(crate::specs::UnitReading::unit_head))]
-fn unit_head(alloc: Global, tokens: &mut Cursor<'_>) -> Result<UnitHead, Failure>
+pub fn unit_head(alloc: Global, tokens: &mut Cursor<'_>) -> Result<UnitHead, Failure>
     ensures { Reads (spec.unit_head tokens.old) result tokens.new }
 {
     let line = tokens.mark(Symbol::Subroutine)?;

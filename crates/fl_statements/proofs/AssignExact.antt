@@ -49,10 +49,10 @@ begins_plain_name = begins_one plain_name (on plain_names) (λ t x h. given (on 
     given true a x h = refl
     given false a x h = cc
 
-plain_name_exact : {l : Freed} → Exact l (one plain_name) never (token plain_name) (token plain_name)
+pub plain_name_exact : {l : Freed} → Exact l (one plain_name) never (token plain_name) (token plain_name)
 plain_name_exact = token_exact plain_name (word_of (example s.Name)) (example s.Name) (ap (λ v. cond (plain_names v) (Some (word_of (example s.Name))) None) (example_is s.Name))
 
-bites_plain_name : Bites (token plain_name) (on plain_names)
+pub bites_plain_name : Bites (token plain_name) (on plain_names)
 bites_plain_name = bites_token plain_name (on plain_names) (λ t h. (word_of t, ap (λ b. cond b (Some (word_of t)) None) h))
 
 -- ---- the last line of a loop
@@ -85,7 +85,7 @@ module _ (l : Freed) (limits wide : Limits) (W : Widens l limits wide) where
   abbrev F : Frees l Deep (fewer limits.depth) (fewer wide.depth)
   F = frees_less W.depth
 
-  whole_exact : Exact l (ge.expr limits.brackets (fewer limits.depth)) (on binds) (pe.expr limits.brackets (fewer limits.depth)) (pe.expr wide.brackets (fewer wide.depth))
+  pub whole_exact : Exact l (ge.expr limits.brackets (fewer limits.depth)) (on binds) (pe.expr limits.brackets (fewer limits.depth)) (pe.expr wide.brackets (fewer wide.depth))
   whole_exact = expr_exact l limits.brackets wide.brackets W.brackets (fewer limits.depth) (fewer wide.depth) F
 
   -- ---- assignments
@@ -94,15 +94,15 @@ module _ (l : Freed) (limits wide : Limits) (W : Widens l limits wide) where
   unfolding g.indexed_target p.indexed_target
   indexed_target_exact so x = seq (list_exact l limits.brackets wide.brackets W.brackets (fewer limits.depth) (fewer wide.depth) F so) (λ found. pure_exact (element_target x found)) (λ found. meets_never never _)
 
-  indexed_target_begins : (x : Word) → Begins (g.indexed_target limits x) (is s.Open)
+  pub indexed_target_begins : (x : Word) → Begins (g.indexed_target limits x) (is s.Open)
   unfolding g.indexed_target
   indexed_target_begins x = begins_seq _ (list_begins l limits.brackets wide.brackets W.brackets (fewer limits.depth) (fewer wide.depth) F)
 
-  indexed_target_bites : nat_lt 0 wide.brackets ≡ true → (x : Word) → Bites (p.indexed_target wide x) (is s.Open)
+  pub indexed_target_bites : nat_lt 0 wide.brackets ≡ true → (x : Word) → Bites (p.indexed_target wide x) (is s.Open)
   unfolding p.indexed_target
   indexed_target_bites so x = bites_seq _ _ (is s.Open) (list_bites l limits.brackets wide.brackets W.brackets (fewer limits.depth) (fewer wide.depth) F so) (λ found. shrinks_pure (element_target x found))
 
-  after_target_exact : (x : Word) → Exact l (g.after_target limits x) (is s.Open) (p.after_target limits x) (p.after_target wide x)
+  pub after_target_exact : (x : Word) → Exact l (g.after_target limits x) (is s.Open) (p.after_target limits x) (p.after_target wide x)
   unfolding g.after_target p.after_target
   after_target_exact x = either_within (nat_lt 0 limits.brackets) (nat_lt 0 wide.brackets) Deep (brackets_room l limits.brackets wide.brackets W.brackets (fewer limits.depth) (fewer wide.depth) F)
       (λ so. anywhere (indexed_target_exact so x)) (λ _ so. indexed_target_bites so x)
@@ -187,10 +187,10 @@ module _ (l : Freed) (limits wide : Limits) (W : Widens l limits wide) where
       (opens_or _ _ (on begins_rest) (opens_begins _ (on begins_rest) (begins_where _ _ _ (begins_in (same s.Open) begins_rest _ (indexed_target_begins x) refl refl))) (opens_gives (scalar_target x) (on begins_rest)))
       (λ t. begins_in (same s.Equals) begins_rest _ (begins_seq _ right_side_begins) refl refl)
 
-  some_wide : nat_lt 0 wide.brackets ≡ true
+  pub some_wide : nat_lt 0 wide.brackets ≡ true
   some_wide = (brackets_room l limits.brackets wide.brackets W.brackets (fewer limits.depth) (fewer wide.depth) F).grows W.some
 
-  equals_only : (ts : Lexemes) → sees (on begins_rest) ts ≡ true → sees (is s.Open) ts ≡ false → sees (is s.Equals) ts ≡ true
+  pub equals_only : (ts : Lexemes) → sees (on begins_rest) ts ≡ true → sees (is s.Open) ts ≡ false → sees (is s.Equals) ts ≡ true
   equals_only [] h f = h
   equals_only (t ∷ ts) h f = by (is s.Open t) (is s.Equals t) h f
     where

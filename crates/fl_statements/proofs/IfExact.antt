@@ -30,18 +30,18 @@ use Rattle.fl_statements.proofs.AssignExact.{guard_exact, conditional_exact, con
 
 -- ---- words
 
-begins_then : Begins (one then_word) (is s.Then)
+pub begins_then : Begins (one then_word) (is s.Then)
 begins_then = begins_one then_word (is s.Then) (λ t x h. given (is s.Then t) (word_of t) x h)
   where
     given : (b : Bool) (a x : Word) → cond b (Some a) None ≡ Some x → b ≡ true
     given true a x h = refl
     given false a x h = cc
 
-then_exact : {l : Freed} → Exact l (one then_word) never (token then_word) (token then_word)
+pub then_exact : {l : Freed} → Exact l (one then_word) never (token then_word) (token then_word)
 then_exact = token_exact then_word (word_of (example s.Then)) (example s.Then) (ap (λ v. cond (same s.Then v) (Some (word_of (example s.Then))) None) (example_is s.Then))
 
 -- what is refused begins nothing of the grammar
-refusing : {A : Type 0} {l : Freed} {M : Grammar A} {after test : Lexeme → Bool} {q q2 : Parser A} → Exact l M after q q2 → Meets M test after → Exact l M after (choose test (refuse Construct) q) (choose test (refuse Construct) q2)
+pub refusing : {A : Type 0} {l : Freed} {M : Grammar A} {after test : Lexeme → Bool} {q q2 : Parser A} → Exact l M after q q2 → Meets M test after → Exact l M after (choose test (refuse Construct) q) (choose test (refuse Construct) q2)
 refusing {A} {l} {M} {after} {test} {q} {q2} P other =
     restate {N = where_ false (λ x us. ⊥) or M} (either_within {N = λ x us. ⊥} {test = test} {q = q} {q2 = q2} {s = q} {s2 = q2} false false Construct (fixed_room false) (λ no. differ true refl (sym no)) (λ _ no. differ true refl (sym no)) P (λ x us rest n. absurd n) other) to from
   where
@@ -54,15 +54,15 @@ refusing {A} {l} {M} {after} {test} {q} {q2} P other =
 
 -- ---- the last line
 
-end_if_exact : (l : Freed) → Exact l g.end_if never p.end_if p.end_if
+pub end_if_exact : (l : Freed) → Exact l g.end_if never p.end_if p.end_if
 unfolding g.end_if p.end_if
 end_if_exact l = either (mark_then s.EndIf _ _ _ (λ _. mark_exact s.LineEnd)) (mark_then s.End _ _ _ (λ _. mark_then s.If _ _ _ (λ _. mark_exact s.LineEnd))) (begins_seq _ (begins_mark s.EndIf))
     (meets (same s.End) (same s.EndIf) never _ (begins_seq _ (begins_mark s.End)) refl refl)
 
-abbrev ends_if : Symbol → Bool
+abbrev pub ends_if : Symbol → Bool
 ends_if = among (s.EndIf ∷ s.End ∷ [])
 
-end_if_begins : Begins g.end_if (on ends_if)
+pub end_if_begins : Begins g.end_if (on ends_if)
 unfolding g.end_if
 end_if_begins = begins_or _ _ (on ends_if) (begins_in (same s.EndIf) ends_if _ (begins_seq _ (begins_mark s.EndIf)) refl refl) (begins_in (same s.End) ends_if _ (begins_seq _ (begins_mark s.End)) refl refl)
 

@@ -97,7 +97,7 @@ added n inside before loops_before m c i s t after loops_after a k is_t C A0 =
 
 -- ---- the same step any number of times
 
-holds_steps : {A : Type 0} (step : A → Grammar A) (P : A → ℕ → Type 0) → ((left : A) (k : ℕ) → P left k → Holds k (step left) P) → (left : A) (m : ℕ) → P left m → Holds m (many step left) P
+pub holds_steps : {A : Type 0} (step : A → Grammar A) (P : A → ℕ → Type 0) → ((left : A) (k : ℕ) → P left k → Holds k (step left) P) → (left : A) (m : ℕ) → P left m → Holds m (many step left) P
 holds_steps {A} step P f left m p x us sp t = holds_many (λ _. true) step P (λ left k p _. f left k p) left m p x us sp (t.0, to t.0 left x us t.1)
   where
     to : (n : ℕ) (left x : A) (us : Lexemes) → times step n left x us → times (stepping (λ _. true) step) n left x us
@@ -161,7 +161,7 @@ assign_to_well n inside before loops_before m atomic c x i k C h named_ more = h
     (λ t a T. holds_bind a (g.right_side the_limits) _ (Sound (Some 63) (a + 1)) (Well n inside before loops_before m) (right_side_sound a)
     (λ e z S. holds_gives z (assigned atomic c t e) (Well n inside before loops_before m) (assigned_well n inside before loops_before m atomic c t e i a z C h T S)))
 
-named_some : (m : ℕ) → Holds m (one name) (λ x k. (is_variable x.name ≡ true) × (m < k))
+pub named_some : (m : ℕ) → Holds m (one name) (λ x k. (is_variable x.name ≡ true) × (m < k))
 named_some m = holds_both m (one name) (λ x k. is_variable x.name ≡ true) (λ x k. m < k) (holds_name m) (holds_some m name names refl begins_name)
 
 assign_well : (n : ℕ) (inside : Bool) (before loops_before m : ℕ) (atomic : Bool) (c : Block) (i : ℕ) → Well n inside before loops_before m c i → nat_le (c.count + 1) 4096 ≡ true → Holds i (g.assign the_limits atomic c) (Well n inside before loops_before m)
@@ -177,12 +177,12 @@ cond_is true a x h = (refl, cc)
 cond_is false a x h = cc
 
 -- a name that isn't `then`, and that word
-plain_sound : (m : ℕ) → Holds m (one plain_name) (λ x k. (is_variable x.name ≡ true) × (m < k))
+pub plain_sound : (m : ℕ) → Holds m (one plain_name) (λ x k. (is_variable x.name ≡ true) × (m < k))
 plain_sound m x us sp n =
     let both = cond_is (on plain_names n.0) (word_of n.0) x n.1 in
     named_some m x us sp (n.0, ap (λ b. cond b (Some (word_of n.0)) None) (plain_is (symbol_of n.0) both.0) ∙ ap (λ (w : Word). Some w) both.1, n.2)
 
-then_sound : (m : ℕ) → Holds m (one then_word) (λ x k. (is_variable x.name ≡ true) × (m < k))
+pub then_sound : (m : ℕ) → Holds m (one then_word) (λ x k. (is_variable x.name ≡ true) × (m < k))
 then_sound m x us sp n =
     let both = cond_is (is s.Then n.0) (word_of n.0) x n.1 in
     named_some m x us sp (n.0, ap (λ b. cond b (Some (word_of n.0)) None) (ap names (same_is s.Then (symbol_of n.0) both.0)) ∙ ap (λ (w : Word). Some w) both.1, n.2)
@@ -215,10 +215,10 @@ first_sound m = holds_bind m (ge.expr 256 (Some 63)) _ (Sound (Some 63) m) (Soun
     (λ e a S. holds_bind a (one (marked s.Comma)) _ (λ _ b. a ≤ b) (Sound (Some 63) m) (holds_any a _)
     (λ _ b more. holds_gives b e (Sound (Some 63) m) (let few_ = S.few in record { is = S.is; fits = S.fits; readable = S.readable; few = omega (arith, few_, more) })))
 
-abbrev LoopNamed : ℕ → ℕ × Word → ℕ → Type 0
+abbrev pub LoopNamed : ℕ → ℕ × Word → ℕ → Type 0
 LoopNamed m x k = (is_variable x.1.name ≡ true) × (m < k)
 
-loop_name_sound : (m : ℕ) → Holds m g.loop_name (LoopNamed m)
+pub loop_name_sound : (m : ℕ) → Holds m g.loop_name (LoopNamed m)
 unfolding g.loop_name
 loop_name_sound m = holds_bind m (one (marked s.Do)) _ (λ _ a. m ≤ a) (LoopNamed m) (holds_any m _)
     (λ line a more. holds_bind a (one name) _ (λ x k. (is_variable x.name ≡ true) × (a < k)) (LoopNamed m) (named_some a)
@@ -258,7 +258,7 @@ spelled_too : (us : Lexemes) → AllSpelled us → AllSpelledToo us
 spelled_too [] sp = tt
 spelled_too (t ∷ us) sp = (sp.0, spelled_too us sp.1)
 
-clauses_readable : (line m : ℕ) → Holds m (omp.parallel_do true line) (λ d k. (has_readable_clauses d ≡ true) × (m ≤ k))
+pub clauses_readable : (line m : ℕ) → Holds m (omp.parallel_do true line) (λ d k. (has_readable_clauses d ≡ true) × (m ≤ k))
 clauses_readable line m = holds_both m (omp.parallel_do true line) (λ d k. has_readable_clauses d ≡ true) (λ d k. m ≤ k) (λ d us sp n. holds_parallel line d us (spelled_too us sp) n) (holds_any m _)
 
 -- what stands in an If, behind a count and numbers of loops, from m on

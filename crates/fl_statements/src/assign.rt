@@ -50,8 +50,9 @@ fn indexed_target(
     Ok(element_target(word, found))
 }
 
+/// What is assigned, behind its name.
 #[tactic(auto, unfolding(crate::specs::StmtReading::after_target))]
-fn after_target(
+pub fn after_target(
     alloc: Global,
     tokens: &mut Cursor<'_>,
     limits: Limits,

@@ -28,7 +28,7 @@ fn is_construct(tokens: &Cursor<'_>) -> bool
 }
 
 /// Whether a name comes that isn't `then`.
-fn sees_plain_name(tokens: &Cursor<'_>) -> bool
+pub fn sees_plain_name(tokens: &Cursor<'_>) -> bool
     ensures { result ≡ reading.sees (on terminals.plain_names) tokens.now }
 {
     match tokens.ahead() {
@@ -37,19 +37,22 @@ fn sees_plain_name(tokens: &Cursor<'_>) -> bool
     }
 }
 
-fn begins_rest(tokens: &Cursor<'_>) -> bool
+/// Whether what stands behind a target's name comes.
+pub fn begins_rest(tokens: &Cursor<'_>) -> bool
     ensures { result ≡ reading.sees (on terminals.begins_rest) tokens.now }
 {
     matches!(tokens.ahead(), Some(Symbol::Open | Symbol::Equals))
 }
 
-fn begins_part(tokens: &Cursor<'_>) -> bool
+/// Whether one more part of an If comes.
+pub fn begins_part(tokens: &Cursor<'_>) -> bool
     ensures { result ≡ reading.sees (on terminals.begins_part) tokens.now }
 {
     matches!(tokens.ahead(), Some(Symbol::ElseIf | Symbol::Else))
 }
 
-fn plain_name(alloc: Global, tokens: &mut Cursor<'_>) -> Result<Word, Failure>
+/// A name that isn't `then`.
+pub fn plain_name(alloc: Global, tokens: &mut Cursor<'_>) -> Result<Word, Failure>
     ensures { Reads (reading.token terminals.plain_name tokens.old) result tokens.new }
 {
     if tokens.sees(Symbol::Then) {
@@ -59,7 +62,7 @@ fn plain_name(alloc: Global, tokens: &mut Cursor<'_>) -> Result<Word, Failure>
 }
 
 /// The word `then`, which may be a name.
-fn then_word(alloc: Global, tokens: &mut Cursor<'_>) -> Result<Word, Failure>
+pub fn then_word(alloc: Global, tokens: &mut Cursor<'_>) -> Result<Word, Failure>
     ensures { Reads (reading.token terminals.then_word tokens.old) result tokens.new }
 {
     if !tokens.sees(Symbol::Then) {
@@ -70,7 +73,7 @@ fn then_word(alloc: Global, tokens: &mut Cursor<'_>) -> Result<Word, Failure>
 
 /// The last line of an If.
 #[tactic(auto, unfolding(crate::specs::StmtReading::end_if))]
-fn end_if(tokens: &mut Cursor<'_>) -> Result<u32, Failure>
+pub fn end_if(tokens: &mut Cursor<'_>) -> Result<u32, Failure>
     ensures { Reads (spec.end_if tokens.old) result tokens.new }
 {
     if tokens.sees(Symbol::EndIf) {
@@ -84,7 +87,7 @@ fn end_if(tokens: &mut Cursor<'_>) -> Result<u32, Failure>
 
 /// A condition in brackets.
 #[tactic(auto, unfolding(crate::specs::StmtReading::guard))]
-fn guard(alloc: Global, tokens: &mut Cursor<'_>, limits: Limits) -> Result<Judged, Failure>
+pub fn guard(alloc: Global, tokens: &mut Cursor<'_>, limits: Limits) -> Result<Judged, Failure>
     requires { limits.depth < 2 ^ 32 }
     ensures { Reads (spec.guard (limits_of limits) tokens.old) result tokens.new }
 {

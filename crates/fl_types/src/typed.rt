@@ -4,12 +4,13 @@ use crate::sharing::Sharing;
 use crate::supported::{is_ring_argument, is_supported};
 use crate::surface::{bytes_of_data, class_within_all, kind_declared};
 use fl_ast::{Kind, Name, Program};
+use std::fmt;
 use std::marker::Model;
 use thiserror::Error;
 
 /// Why a program isn't typed: the first fault in the order of its names and numbers. The line is that of the innermost
 /// tree around it that has one; each test of an `if` has that of its `if`.
-#[derive(Debug, Drop, Error)]
+#[derive(Drop, Error)]
 pub enum TypeError {
     /// A name or an argument has no declaration.
     #[error("a name isn't declared")]
@@ -76,6 +77,12 @@ pub enum TypeError {
     CollapseForm { line: u32 },
     #[error("no memory")]
     Memory,
+}
+
+impl fmt::Debug for TypeError {
+    fn fmt<W: fmt::Write>(&self, f: &mut fmt::Formatter<W>) -> fmt::Result {
+        write!(f, "{self}")
+    }
 }
 
 /// A program that is typed. Contracts see it as the program.

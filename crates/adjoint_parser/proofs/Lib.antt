@@ -1,0 +1,2 @@
+pub mod AdjointTexts
+pub mod AdjointUnits

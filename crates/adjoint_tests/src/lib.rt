@@ -1,0 +1,5 @@
+//! Tests of the parser of adjoints.
+#![tactic(auto)]
+
+#[cfg(test)]
+mod texts;
