@@ -20,12 +20,10 @@ answer_at shapes line eval.Memory (run.Trap t) x q a = absurd q
 answer_at shapes line eval.Memory run.Statements x q a = absurd q
 answer_at shapes line eval.Memory run.Memory x q a = tt
 
-pub set_at_line : {A : Type 0} (shapes : List Shape) (line : ℕ) (e : EvalStop) (s : RunStop) (cells : Cells) (x : Result Cells Cause) → StopsAt shapes line e s → Sets {A = A} shapes (Err e) cells x → SetsAt {A = A} (Err s) cells (lined line x)
+pub set_at_line : (shapes : List Shape) (line : ℕ) (e : EvalStop) (s : RunStop) (cells : Cells) (x : Result Cells Cause) → StopsAt shapes line e s → Sets {A = Unit {0}} shapes (Err e) cells x → SetsAt {A = Unit {0}} (Err s) cells (lined line x)
 set_at_line shapes line (eval.Trap h) (run.Trap t) cells x q a = ap (lined line) a ∙ ap Err (sym q)
 set_at_line shapes line (eval.Trap h) run.Statements cells x q a = absurd q
 set_at_line shapes line (eval.Trap h) run.Memory cells x q a = tt
 set_at_line shapes line eval.Memory (run.Trap t) cells x q a = absurd q
 set_at_line shapes line eval.Memory run.Statements cells x q a = absurd q
 set_at_line shapes line eval.Memory run.Memory cells x q a = tt
-
-pub ruleset stopped = (answer_at, set_at_line)

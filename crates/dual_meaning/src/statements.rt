@@ -88,7 +88,7 @@ fn stop_at(alloc: Global, table: &SlotTable, line: u32, stop: EvalStop) -> RunSt
     }
 }
 
-#[tactic(auto, using(crate::proofs::Stopped::stopped))]
+#[tactic(auto, using(crate::proofs::Stopped::answer_at))]
 fn test_at(
     alloc: Global,
     table: &SlotTable,
@@ -105,7 +105,7 @@ fn test_at(
     }
 }
 
-#[tactic(auto, using(crate::proofs::Stopped::stopped))]
+#[tactic(auto, using(crate::proofs::Stopped::answer_at))]
 fn turns_at(
     alloc: Global,
     table: &SlotTable,
@@ -125,7 +125,7 @@ fn turns_at(
     }
 }
 
-#[tactic(auto, using(crate::proofs::Stopped::stopped))]
+#[tactic(auto, using(crate::proofs::Stopped::set_at_line))]
 fn assign_at(
     alloc: Global,
     table: &SlotTable,
