@@ -1,6 +1,4 @@
-pub mod Located
-pub mod Counts
-pub mod Forms
+pub mod Stopped
 pub mod Turning
 pub mod Names
 pub mod Unseen

@@ -27,11 +27,12 @@ use Rattle.dual_meaning.specs.declared.statements.RunStop.{RunStop}
 use Rattle.dual_meaning.specs.declared.statements.RunStop.TheVariants as stop
 use Rattle.dual_meaning.specs.declared.rounds.Round.{Round}
 use Rattle.dual_meaning.specs.Counted.{Counted, followed, begun, ended, lined, CountedRun, counted_turns, counted_turn, counted_iteration, headed, turns_at, counted_heads, chosen, counted_begun, counted_all, counted_inner, counted_arms}
-use Rattle.dual_meaning.specs.Running.{by_form, SetsAt, Begins, Ran, AnswersAt, AnswersRound, round_of, round_count, with_rounds, unset_places, counted_round}
-use Rattle.dual_meaning.proofs.Forms.{by_form_is}
+use Rattle.dual_evaluation.specs.Assignments.{by_form}
+use Rattle.dual_meaning.specs.Running.{SetsAt, Begins, Ran, AnswersAt, AnswersRound, round_of, round_count, with_rounds, unset_places, counted_round}
+use Rattle.dual_evaluation.proofs.Forms.{by_form_is}
 use Rattle.ring_core.specs.Index.{fits_index}
-use Rattle.dual_meaning.proofs.Counts.{computed}
-use Rattle.dual_meaning.proofs.Located.{place_by_slot}
+use Rattle.dual_evaluation.proofs.Counts.{computed}
+use Rattle.dual_evaluation.proofs.Located.{place_by_slot}
 use Rattle.dual_meaning.proofs.Nesting.{Nest}
 use Rattle.dual_meaning.proofs.Counting.{followed_same, begun_same}
 

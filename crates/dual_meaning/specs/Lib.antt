@@ -1,4 +1,3 @@
-pub mod Answers
 pub mod Counted
 pub mod Running
 pub mod Runs

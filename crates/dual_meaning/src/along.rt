@@ -8,12 +8,12 @@ ghost use Rattle.store_core.specs.Values.{index_of};
 ghost use Rattle.meaning.specs.Sites.{opening_site, with_tangent, word_of};
 ghost use Rattle.meaning.specs.Adjoints.{cells_along, tangent_of};
 ghost use Rattle.meaning.specs.Programs.{value_of_word, cells_of, no_pushes, meaning};
-ghost use Rattle.resolved.specs.SlotTables.{kinds_of, named_kind};
+ghost use Rattle.resolved.specs.SlotTables.{kinds_of, named_kind, names_of};
 ghost use Rattle.dual_meaning.specs.Runs.{Ends};
 ghost use Rattle.dual_meaning.specs.Tangents.{IsTangent, entry_cell, name_cells, argument_kind as argument_kind_lem, shape_cells};
 
 use crate::privates::has_name;
-use crate::program::{run_program, table_of};
+use crate::program::{run_on, table_of};
 use crate::statements::RunStop;
 use fl_ast::{Decl, Kind, Memory, Name, Program};
 use fl_types::Typed;
@@ -137,18 +137,19 @@ fn cells_by(
 /// The cells of a program's entry: its arguments have their words and tangents, everything else is unset.
 fn opening_cells(
     alloc: Global,
+    table: &SlotTable,
     layout: &Layout,
     decls: &[Decl],
     args: &[Name],
     words: &[u64],
     tangents: &[u64],
 ) -> Result<Vec<Option<Value>>, Memory>
-    requires few { length (keys_of layout.now) + length decls.now ≤ 2 ^ 21 }
+    requires named { table.now ≡ names_of layout.now decls.now }
     ensures { IfOk result (λ cells. cells.items
         ≡ cells_along tangents.now (cells_of (opening_site decls.now layout.now no_pushes) args.now (keys_of (with_scalars layout.now decls.now)) words.now)) }
 {
-    let table = table_of(alloc, layout, decls)?;
-    cells_by(alloc, &table, decls, args, words, tangents)
+    let _places = layout.count();
+    cells_by(alloc, table, decls, args, words, tangents)
 }
 
 fn word(cell: Option<Value>) -> u64
@@ -235,8 +236,18 @@ fn run_along<L: Ledger>(
     ensures { Ends (λ end. end.items) (meaning (program_tree program.now) layout.now no_pushes words.now along.now) result steps.old steps.new }
 {
     let decls = program.decls.as_slice();
-    let cells = opening_cells(alloc, layout, decls, program.args.as_slice(), words, along)?;
-    run_program(alloc, layout, decls, program.body.as_slice(), cells, steps)
+    let table = table_of(alloc, layout, decls)?;
+    let args = program.args.as_slice();
+    let cells = opening_cells(alloc, &table, layout, decls, args, words, along)?;
+    run_on(
+        alloc,
+        &table,
+        layout,
+        decls,
+        program.body.as_slice(),
+        cells,
+        steps,
+    )
 }
 
 /// The values of all places at the end of a program, and their tangents for a direction at its beginning, which has 0

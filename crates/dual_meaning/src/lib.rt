@@ -2,16 +2,12 @@
 #![tactic(auto)]
 
 mod along;
-mod assignment;
-mod bounds;
-mod evaluator;
 mod privates;
 mod program;
 mod rounds;
 mod statements;
 
 pub use along::{Tangents, tangent};
-pub use evaluator::{EvalStop, evaluate, holds};
 pub use program::run_program;
 pub use rounds::Round;
 pub use statements::{Progress, RunStop, run_statements};

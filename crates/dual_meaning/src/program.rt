@@ -56,6 +56,29 @@ fn stmts_of(
     }
 }
 
+/// Runs a program's statements over its names, which are looked up already.
+pub(crate) fn run_on<L: Ledger>(
+    alloc: Global,
+    table: &SlotTable,
+    layout: &Layout,
+    decls: &[Decl],
+    body: &[Stmt],
+    cells: Vec<Option<Value>>,
+    steps: &mut Steps<L>,
+) -> Result<Vec<Option<Value>>, RunStop>
+    requires named { table.now ≡ names_of layout.now decls.now }
+    requires kinded { are_well_kinded_statements (declared_names decls.now) (stmt_trees body.now) ≡ true }
+    ensures { (pushed : List ℕ → Bool) → Ends (λ end. end.items) (run_all (stmt_trees body.now) (opening_site decls.now layout.now pushed) cells.items)
+        result steps.old steps.new }
+{
+    let stmts = stmts_of(alloc, layout, decls, table, body)?;
+    let mut progress = Progress { cells, left: MOST };
+    match run_statements(alloc, table, &mut progress, steps, stmts.as_slice()) {
+        Ok(()) => Ok(progress.cells),
+        Err(stop) => Err(stop),
+    }
+}
+
 /// Runs a program's statements over the cells of its layout and, after them, of the names that live in loops alone. It
 /// ticks once for each statement instance.
 pub fn run_program<L: Ledger>(
@@ -72,10 +95,5 @@ pub fn run_program<L: Ledger>(
         result steps.old steps.new }
 {
     let table = table_of(alloc, layout, decls)?;
-    let stmts = stmts_of(alloc, layout, decls, &table, body)?;
-    let mut progress = Progress { cells, left: MOST };
-    match run_statements(alloc, &table, &mut progress, steps, stmts.as_slice()) {
-        Ok(()) => Ok(progress.cells),
-        Err(stop) => Err(stop),
-    }
+    run_on(alloc, &table, layout, decls, body, cells, steps)
 }

@@ -1,7 +1,8 @@
 ghost use Rattle.std.specs.Prelude.{◌≡◌, ◌<◌, ◌*◌, ◌/◌, ◌%◌, None, slice_set};
-ghost use Rattle.dual_meaning.specs.Running.{IsCounted, unset_places, with_round as with_round_lem, round_count as round_count_lem, with_rounds, is_counted_option};
+ghost use Rattle.dual_evaluation.specs.Assignments.{IsCounted};
+ghost use Rattle.dual_meaning.specs.Running.{unset_places, with_round as with_round_lem, round_count as round_count_lem, with_rounds, is_counted_option};
 
-use crate::bounds::begin_turn;
+use dual_evaluation::begin_turn;
 use meaning::{IterationCount, Value};
 
 /// A loop over iterations: where its variable lives, and its turns.

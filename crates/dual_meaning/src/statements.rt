@@ -7,15 +7,15 @@ ghost use Rattle.meaning.specs.Statements.{private_names, iterations};
 ghost use Rattle.resolved.specs.SlotTables.{table_site};
 ghost use Rattle.resolved.specs.ResolvedExprs.{expression_back, place_back, condition_back, slot_name, is_within, is_place_within, is_condition_within};
 ghost use Rattle.resolved.specs.ResolvedStmts.{statement_back, statements_back, is_option_within, is_fit, are_fit};
+ghost use Rattle.dual_evaluation.specs.Answers.{halt_cause};
+ghost use Rattle.dual_evaluation.specs.Assignments.{by_form, IsCounted};
 ghost use Rattle.dual_meaning.specs.Counted.{followed, ended, lined, turns_at as turns_at_lem, counted_heads, counted_turn, counted_turns, counted_iteration, counted_run, counted_begun, counted_all};
-ghost use Rattle.dual_meaning.specs.Running.{by_form, IsCounted, stop_at as stop_at_lem, AnswersAt, AnswersRound, SetsAt, Begins, Ran, over_by, head_back, round_of, round_count as round_count_lem, counted_round, is_counted_option};
-ghost use Rattle.dual_meaning.specs.declared.statements.RunStop.TheVariants.{Memory as memory};
+ghost use Rattle.dual_meaning.specs.Running.{StopsAt, AnswersAt, AnswersRound, SetsAt, Begins, Ran, over_by, head_back, round_of, round_count as round_count_lem, counted_round, is_counted_option};
+ghost use Rattle.dual_meaning.specs.declared.statements.RunStop.TheVariants.{Memory as memory, Trap as trap};
 
-use crate::assignment::assign;
-use crate::bounds::{begin_turn, turns_of};
-use crate::evaluator::{EvalStop, holds};
 use crate::privates::{is_nest, private_places};
 use crate::rounds::{Round, round_count, set_rounds, unset_all};
+use dual_evaluation::{EvalStop, Halt, assign, begin_turn, cause_of, holds, turns_of};
 use fl_ast::{Directive, Memory};
 use fl_types::IncrementForm;
 use meaning::{IterationCount, TrapAt, Value};
@@ -67,16 +67,28 @@ fn begin<L: Ledger>(left: &mut u32, steps: &mut Steps<L>) -> Result<(), RunStop>
     Ok(())
 }
 
+/// A trap in a statement at a line.
+fn trap_at(alloc: Global, table: &SlotTable, line: u32, halt: Halt) -> Result<RunStop, Memory>
+    ensures { IfOk result (λ stop. stop ≡ trap (record { line = line; cause = halt_cause table.now.0 halt })) }
+{
+    let cause = cause_of(alloc, table, halt)?;
+    Ok(RunStop::Trap(TrapAt { line, cause }))
+}
+
 /// A stop in a statement at a line.
-fn stop_at(line: u32, stop: EvalStop) -> RunStop
-    ensures { result ≡ stop_at_lem line stop }
+fn stop_at(alloc: Global, table: &SlotTable, line: u32, stop: EvalStop) -> RunStop
+    ensures { StopsAt table.now.0 line stop result }
 {
     match stop {
-        EvalStop::Trap(cause) => RunStop::Trap(TrapAt { line, cause }),
+        EvalStop::Trap(halt) => match trap_at(alloc, table, line, halt) {
+            Ok(stop) => stop,
+            Err(_) => RunStop::Memory,
+        },
         EvalStop::Memory => RunStop::Memory,
     }
 }
 
+#[tactic(auto, using(crate::proofs::Stopped::answer_at))]
 fn test_at(
     alloc: Global,
     table: &SlotTable,
@@ -89,10 +101,11 @@ fn test_at(
 {
     match holds(alloc, table, cells, test) {
         Ok(holds) => Ok(holds),
-        Err(stop) => Err(stop_at(line, stop)),
+        Err(stop) => Err(stop_at(alloc, table, line, stop)),
     }
 }
 
+#[tactic(auto, using(crate::proofs::Stopped::answer_at))]
 fn turns_at(
     alloc: Global,
     table: &SlotTable,
@@ -108,10 +121,11 @@ fn turns_at(
 {
     match turns_of(alloc, table, cells, head) {
         Ok(turns) => Ok(turns),
-        Err(stop) => Err(stop_at(line, stop)),
+        Err(stop) => Err(stop_at(alloc, table, line, stop)),
     }
 }
 
+#[tactic(auto, using(crate::proofs::Stopped::set_at_line))]
 fn assign_at(
     alloc: Global,
     table: &SlotTable,
@@ -128,7 +142,7 @@ fn assign_at(
 {
     match assign(alloc, table, cells, target, value, form) {
         Ok(()) => Ok(()),
-        Err(stop) => Err(stop_at(line, stop)),
+        Err(stop) => Err(stop_at(alloc, table, line, stop)),
     }
 }
 

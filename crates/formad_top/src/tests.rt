@@ -181,11 +181,7 @@ fn runs(rt: HostRuntime) -> Result<(), Fail> {
     Ok(())
 }
 
-const HALVES: &[u8] =
-    b"subroutine halves(n, a)\n  integer :: n\n  integer(kind=8) :: a(n)\n  integer :: i\n  do i = 1, n\n    a(2*i) = a(i)\n  end do\nend subroutine halves\n";
-
 /// A call of `tangent`: the program, the data and the direction, and what comes of it.
-#[derive(Drop)]
 struct Directed {
     program: &'static [u8],
     data: &'static [u8],
@@ -193,6 +189,163 @@ struct Directed {
     status: Status,
     text: &'static [u8],
 }
+
+/// Answers in directions, traps, and faults of a direction and of a program.
+static DIRECTED: [Directed; 20] = [
+    // a sum of products
+    Directed {
+        program: b"subroutine poly(x, y)\n  !\n  integer(kind=8) :: x, y\n  y = x*x + 3*x\nend subroutine poly\n",
+        data: b"{\"x\":5,\"y\":0}",
+        direction: b"{\"x\":1}",
+        status: Status::Done,
+        text: b"{\"tangent\":{\"x\":1,\"y\":13},\"value\":{\"x\":5,\"y\":40}}\n",
+    },
+    // words of one byte
+    Directed {
+        program: b"subroutine square(x, y)\n  integer(kind=1) :: x, y\n  y = x*x\nend subroutine square\n",
+        data: b"{\"x\":100,\"y\":0}",
+        direction: b"{\"x\":1}",
+        status: Status::Done,
+        text: b"{\"tangent\":{\"x\":1,\"y\":-56},\"value\":{\"x\":100,\"y\":16}}\n",
+    },
+    // words of two bytes
+    Directed {
+        program: b"subroutine square(x, y)\n  integer(kind=2) :: x, y\n  y = x*x\nend subroutine square\n",
+        data: b"{\"x\":300,\"y\":0}",
+        direction: b"{\"x\":1}",
+        status: Status::Done,
+        text: b"{\"tangent\":{\"x\":1,\"y\":600},\"value\":{\"x\":300,\"y\":24464}}\n",
+    },
+    // in two directions, and in the sum of the first and twice the second
+    Directed {
+        program: b"subroutine product(x, z, y)\n  integer(kind=8) :: x, z, y\n  y = x*z\nend subroutine product\n",
+        data: b"{\"x\":3,\"z\":5,\"y\":0}",
+        direction: b"{\"x\":1,\"z\":4}",
+        status: Status::Done,
+        text: b"{\"tangent\":{\"x\":1,\"y\":17,\"z\":4},\"value\":{\"x\":3,\"y\":15,\"z\":5}}\n",
+    },
+    Directed {
+        program: b"subroutine product(x, z, y)\n  integer(kind=8) :: x, z, y\n  y = x*z\nend subroutine product\n",
+        data: b"{\"x\":3,\"z\":5,\"y\":0}",
+        direction: b"{\"x\":2,\"z\":-1}",
+        status: Status::Done,
+        text: b"{\"tangent\":{\"x\":2,\"y\":7,\"z\":-1},\"value\":{\"x\":3,\"y\":15,\"z\":5}}\n",
+    },
+    Directed {
+        program: b"subroutine product(x, z, y)\n  integer(kind=8) :: x, z, y\n  y = x*z\nend subroutine product\n",
+        data: b"{\"x\":3,\"z\":5,\"y\":0}",
+        direction: b"{\"x\":5,\"z\":2}",
+        status: Status::Done,
+        text: b"{\"tangent\":{\"x\":5,\"y\":31,\"z\":2},\"value\":{\"x\":3,\"y\":15,\"z\":5}}\n",
+    },
+    // the first of two that are equal
+    Directed {
+        program: b"subroutine tie(x, z, y)\n  integer(kind=8) :: x, z, y\n  y = max(x, z)\nend subroutine tie\n",
+        data: b"{\"x\":2,\"z\":2,\"y\":0}",
+        direction: b"{\"x\":1,\"z\":5}",
+        status: Status::Done,
+        text: b"{\"tangent\":{\"x\":1,\"y\":1,\"z\":5},\"value\":{\"x\":2,\"y\":2,\"z\":2}}\n",
+    },
+    // a sum of one byte is below 0
+    Directed {
+        program: b"subroutine below(x, y)\n  integer(kind=1) :: x, y\n  y = 0\n  if (x + x < 0) then\n    y = x\n  end if\nend subroutine below\n",
+        data: b"{\"x\":100,\"y\":0}",
+        direction: b"{\"x\":1}",
+        status: Status::Done,
+        text: b"{\"tangent\":{\"x\":1,\"y\":1},\"value\":{\"x\":100,\"y\":100}}\n",
+    },
+    // steps downwards
+    Directed {
+        program: b"subroutine down(x, a)\n  integer(kind=8) :: x, a(3)\n  integer :: i\n  do i = 3, 2, -2\n    a(i) = i*x\n  end do\nend subroutine down\n",
+        data: b"{\"x\":5,\"a\":[7,8,9]}",
+        direction: b"{\"x\":1,\"a\":[2,2,2]}",
+        status: Status::Done,
+        text: b"{\"tangent\":{\"a\":[2,2,3],\"x\":1},\"value\":{\"a\":[7,8,15],\"x\":5}}\n",
+    },
+    // two loops collapsed
+    Directed {
+        program: b"subroutine grid(x, a)\n  integer(kind=8) :: x, a(2, 3)\n  integer :: i, j\n  !$omp parallel do collapse(2)\n  do i = 1, 2\n    do j = 1, 3\n      a(i, j) = x*(10*i + j)\n    end do\n  end do\nend subroutine grid\n",
+        data: b"{\"x\":1,\"a\":[0,0,0,0,0,0]}",
+        direction: b"{\"x\":1}",
+        status: Status::Done,
+        text: b"{\"tangent\":{\"a\":[11,21,12,22,13,23],\"x\":1},\"value\":{\"a\":[11,21,12,22,13,23],\"x\":1}}\n",
+    },
+    // the four causes of a trap
+    Directed {
+        program: b"subroutine halves(n, a)\n  integer :: n\n  integer(kind=8) :: a(n)\n  integer :: i\n  do i = 1, n\n    a(2*i) = a(i)\n  end do\nend subroutine halves\n",
+        data: b"{\"n\":3,\"a\":[1,2,3]}",
+        direction: b"{}",
+        status: Status::Trapped,
+        text: b"trap line 6 bounds a\n",
+    },
+    Directed {
+        program: b"subroutine early(x)\n  integer(kind=8) :: x, t\n  x = t\nend subroutine early\n",
+        data: b"{\"x\":5}",
+        direction: b"{}",
+        status: Status::Trapped,
+        text: b"trap line 3 unset t\n",
+    },
+    Directed {
+        program: b"subroutine wide(n, x)\n  integer :: n\n  integer(kind=8) :: x\n  x = n*n\nend subroutine wide\n",
+        data: b"{\"n\":100000,\"x\":5}",
+        direction: b"{}",
+        status: Status::Trapped,
+        text: b"trap line 4 range\n",
+    },
+    Directed {
+        program: b"subroutine parts(n, x)\n  integer :: n\n  integer(kind=8) :: x\n  x = 4/n\nend subroutine parts\n",
+        data: b"{\"n\":0,\"x\":5}",
+        direction: b"{}",
+        status: Status::Trapped,
+        text: b"trap line 4 zero divisor\n",
+    },
+    // a test's trap has the line of its `if`
+    Directed {
+        program: b"subroutine tested(n, x)\n  integer :: n\n  integer(kind=8) :: x\n  if (x > 0) then\n    x = 1\n  else if (4/n > 0) then\n    x = 2\n  end if\nend subroutine tested\n",
+        data: b"{\"n\":0,\"x\":-1}",
+        direction: b"{}",
+        status: Status::Trapped,
+        text: b"trap line 4 zero divisor\n",
+    },
+    // bounds of a loop
+    Directed {
+        program: b"subroutine bounded(n, x)\n  integer :: n, i\n  integer(kind=8) :: x\n  do i = 1, 4/n\n    x = 1\n  end do\nend subroutine bounded\n",
+        data: b"{\"n\":0,\"x\":5}",
+        direction: b"{}",
+        status: Status::Trapped,
+        text: b"trap line 4 zero divisor\n",
+    },
+    // a private scalar is unset in each iteration
+    Directed {
+        program: b"subroutine fresh(x, a)\n  integer(kind=8) :: x, t, a(2)\n  integer :: i\n  !$omp parallel do private(t)\n  do i = 1, 2\n    if (i == 1) then\n      t = x\n    end if\n    a(i) = t\n  end do\nend subroutine fresh\n",
+        data: b"{\"x\":5,\"a\":[0,0]}",
+        direction: b"{}",
+        status: Status::Trapped,
+        text: b"trap line 9 unset t\n",
+    },
+    // faults of a direction and of a program
+    Directed {
+        program: b"subroutine poly(x, y)\n  !\n  integer(kind=8) :: x, y\n  y = x*x + 3*x\nend subroutine poly\n",
+        data: b"{\"x\":5,\"y\":0}",
+        direction: b"{",
+        status: Status::BadData,
+        text: b"direction file: not JSON\n",
+    },
+    Directed {
+        program: b"subroutine poly(x, y)\n  !\n  integer(kind=8) :: x, y\n  y = x*x + 3*x\nend subroutine poly\n",
+        data: b"{\"x\":5,\"y\":0}",
+        direction: b"{\"z\":1}",
+        status: Status::BadData,
+        text: b"direction z: extra\n",
+    },
+    Directed {
+        program: b"subroutine none(x)\n  integer(kind=8) :: x\n  x = z\nend subroutine none\n",
+        data: b"{\"x\":5}",
+        direction: b"{}",
+        status: Status::Refused,
+        text: b"refused line 3: undeclared z\n",
+    },
+];
 
 fn directed_folder(alloc: Global, row: &Directed) -> Result<MemFolder, &'static str> {
     let mut files = Vec::new(alloc);
@@ -254,45 +407,10 @@ fn directed_counted<R: Threads + Sync>(
     called_along::<R, Brand>(rt, alloc, blank, row)
 }
 
-/// An answer, a trap, and faults of a direction and of a program.
+/// What each call ends with, and that the sink took exactly the text.
 #[test]
 fn runs_in_directions(rt: HostRuntime) -> Result<(), Fail> {
-    let poly = Directed {
-        program: POLY,
-        data: b"{\"x\":5,\"y\":0}",
-        direction: b"{\"x\":1}",
-        status: Status::Done,
-        text: b"{\"tangent\":{\"x\":1,\"y\":13},\"value\":{\"x\":5,\"y\":40}}\n",
-    };
-    let bounds = Directed {
-        program: HALVES,
-        data: b"{\"n\":3,\"a\":[1,2,3]}",
-        direction: b"{}",
-        status: Status::Trapped,
-        text: b"trap line 6 bounds a\n",
-    };
-    let unread = Directed {
-        program: POLY,
-        data: b"{\"x\":5,\"y\":0}",
-        direction: b"{",
-        status: Status::BadData,
-        text: b"direction file: not JSON\n",
-    };
-    let extra = Directed {
-        program: POLY,
-        data: b"{\"x\":5,\"y\":0}",
-        direction: b"{\"z\":1}",
-        status: Status::BadData,
-        text: b"direction z: extra\n",
-    };
-    let untyped = Directed {
-        program: b"subroutine none(x)\n  integer(kind=8) :: x\n  x = z\nend subroutine none\n",
-        data: b"{\"x\":5}",
-        direction: b"{}",
-        status: Status::Refused,
-        text: b"refused line 3: undeclared z\n",
-    };
-    for row in [poly, bounds, unread, extra, untyped].iter() {
+    for row in DIRECTED.iter() {
         let (status, whole) = directed_counted(&rt, rt.alloc(), Blank::new(1), row)?;
         assert_eq!(rt; status, row.status);
         assert!(rt; whole);

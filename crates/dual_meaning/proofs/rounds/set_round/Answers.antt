@@ -1,6 +1,6 @@
 use Rattle.std.proofs.Common.{◌≡◌, sym, subst, true, refl}
 use Rattle.ring_core.specs.Index.{fits_index}
-use Rattle.dual_meaning.proofs.Counts.{value_fits, computed}
+use Rattle.dual_evaluation.proofs.Counts.{value_fits, computed}
 use Rattle.dual_meaning.proofs.Turning.{set_is}
 use Rattle.dual_meaning.proofs.rounds.set_round.Goals as goal
 

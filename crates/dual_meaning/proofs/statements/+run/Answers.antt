@@ -13,10 +13,10 @@ use Rattle.resolved.proofs.Slots.{do_fit, do_back, if_fit, if_back}
 use Rattle.dual_meaning.specs.Counted.{counted_turn, lined, turns_at, counted_run, counted_begun, counted_all, counted_arms}
 use Rattle.dual_meaning.specs.Running.{Ran, head_back, round_count, counted_round, with_rounds}
 use Rattle.dual_meaning.proofs.Turning.{answer_stop, assigned_ran, turns_next, turns_ran, turn_counts, set_is, begins_ran, none_begins, parallel_counts, plain_counts, nest_counts, headed_by, arms_fit_at, arms_at, arm_chosen, inner_rounds, inner_stop, first_fit}
-use Rattle.dual_meaning.proofs.Counts.{value_fits, computed}
+use Rattle.dual_evaluation.proofs.Counts.{value_fits, computed}
 use Rattle.dual_meaning.proofs.Nesting.{nested}
 use Rattle.dual_meaning.proofs.Quotients.{privates_are}
-use Rattle.dual_meaning.proofs.Located.{place_by_slot}
+use Rattle.dual_evaluation.proofs.Located.{place_by_slot}
 use Rattle.dual_meaning.proofs.statements.+run.Goals as goal
 
 -- ---- statements

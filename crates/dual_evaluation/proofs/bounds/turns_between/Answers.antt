@@ -1,6 +1,6 @@
 use Rattle.std.proofs.Common.{rules}
-use Rattle.dual_meaning.proofs.Counts.{turns_when, worded}
-use Rattle.dual_meaning.proofs.bounds.turns_between.Goals as goal
+use Rattle.dual_evaluation.proofs.Counts.{turns_when, worded}
+use Rattle.dual_evaluation.proofs.bounds.turns_between.Goals as goal
 
 pub returns : goal.returns
 returns c = record {

@@ -1,7 +1,7 @@
 use Rattle.std.proofs.Common.{◌≡◌, rules, ap, ◌∙◌, pos, ◌+ℤ◌, ◌*ℤ◌, w32, to_z, of_z}
 use Rattle.std.proofs.lemmas.Int.{to_z-of_z}
-use Rattle.dual_meaning.proofs.Counts.{from_range}
-use Rattle.dual_meaning.proofs.bounds.value_in.Goals as goal
+use Rattle.dual_evaluation.proofs.Counts.{from_range}
+use Rattle.dual_evaluation.proofs.bounds.value_in.Goals as goal
 
 pub returns : goal.returns
 returns c =

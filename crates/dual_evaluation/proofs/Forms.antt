@@ -22,8 +22,8 @@ use Rattle.meaning.specs.Expressions.{content, value_of, values_of}
 use Rattle.meaning.specs.Statements.{store_at, plain_assignment, put, terms_of, incremented_dual, increment_cell, increment_place, increment, assignment_by}
 use Rattle.resolved.specs.SlotTables.{Names, table_site, is_ring_in}
 use Rattle.resolved.specs.ResolvedStmts.{form_in, same_form}
-use Rattle.dual_meaning.specs.Answers.{location_of}
-use Rattle.dual_meaning.specs.Running.{put_by, increment_cell_by, increment_at, increment_by, sum_with, no_sum, chain_sum, front, by_form}
+use Rattle.dual_evaluation.specs.Answers.{location_of}
+use Rattle.dual_evaluation.specs.Assignments.{put_by, increment_cell_by, increment_at, increment_by, sum_with, no_sum, chain_sum, front, by_form}
 use Rattle.meaning.proofs.ByKeys.{touching_out}
 
 -- one result and then another

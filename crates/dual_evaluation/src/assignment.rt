@@ -1,11 +1,13 @@
-ghost use Rattle.std.specs.Prelude.{◌≡◌, true, Some, length, slice_set};
+ghost use Rattle.std.specs.Prelude.{◌≡◌, true, Some, None, length, slice_set};
+ghost use Rattle.fl_types.specs.declared.increment.IncrementForm.TheVariants.{Chain, Sum};
 ghost use Rattle.meaning.specs.Expressions.{value_of};
 ghost use Rattle.resolved.specs.SlotTables.{table_site};
 ghost use Rattle.resolved.specs.ResolvedExprs.{expression_back, place_back, is_within, is_place_within};
-ghost use Rattle.dual_meaning.specs.Answers.{Answers};
-ghost use Rattle.dual_meaning.specs.Running.{put_by, increment_by, chain_sum, sum_with as sum_with_lem, front as front_lem, by_form, Sets};
+ghost use Rattle.dual_evaluation.specs.Answers.{Answers, Sets};
+ghost use Rattle.dual_evaluation.specs.Assignments.{put_by, increment_by, chain_sum, sum_with as sum_with_lem, front as front_lem, by_form};
 
-use crate::evaluator::{EvalStop, bounds_stop, cell, evaluate, locate, unset_stop};
+use crate::evaluator::{cell, evaluate, locate};
+use crate::stop::{EvalStop, Halt};
 use fl_ast::BinOp;
 use fl_types::IncrementForm;
 use meaning::{Dual, Value};
@@ -31,11 +33,11 @@ fn put(
     value: Value,
 ) -> Result<(), EvalStop>
     requires { is_place_within (length table.now.0) target.now ≡ true }
-    ensures { Sets result cells.new.items
+    ensures { Sets table.now.0 result cells.new.items
         (put_by (table_site table.now) cells.old.items (place_back table.now.0 target.now) value).out }
 {
     match locate(alloc, table, cells, target)? {
-        None => Err(bounds_stop(alloc, table, target.slot)?),
+        None => Err(EvalStop::Trap(Halt::Bounds { slot: target.slot })),
         Some(place) => {
             set(cells, place, value.as_kind(table.kind(target.slot)));
             Ok(())
@@ -52,13 +54,13 @@ fn increment_place(
     more: Dual,
 ) -> Result<(), EvalStop>
     requires { is_place_within (length table.now.0) target.now ≡ true }
-    ensures { Sets result cells.new.items
+    ensures { Sets table.now.0 result cells.new.items
         (increment_by (table_site table.now) cells.old.items (place_back table.now.0 target.now) more).out }
 {
     match locate(alloc, table, cells, target)? {
-        None => Err(bounds_stop(alloc, table, target.slot)?),
+        None => Err(EvalStop::Trap(Halt::Bounds { slot: target.slot })),
         Some(place) => match cell(cells, place) {
-            None => Err(unset_stop(alloc, table, target.slot)?),
+            None => Err(EvalStop::Trap(Halt::Unset { slot: target.slot })),
             Some(value) => {
                 set(cells, place, Value::Ring(value.as_dual().add(more)));
                 Ok(())
@@ -84,7 +86,7 @@ fn sum_of_chain(
     value: &ResolvedExpr,
 ) -> Result<Dual, EvalStop>
     requires { is_within (length table.now.0) value.now ≡ true }
-    ensures { Answers result (chain_sum (expression_back table.now.0 value.now) (table_site table.now) cells.now).out }
+    ensures { Answers table.now.0 result (chain_sum (expression_back table.now.0 value.now) (table_site table.now) cells.now).out }
 {
     match value {
         ResolvedExpr::Bin { op, left, right } => {
@@ -104,7 +106,7 @@ fn front(
     value: &ResolvedExpr,
 ) -> Result<Value, EvalStop>
     requires { is_within (length table.now.0) value.now ≡ true }
-    ensures { Answers result (value_of (front_lem (expression_back table.now.0 value.now)) (table_site table.now) cells.now).out }
+    ensures { Answers table.now.0 result (value_of (front_lem (expression_back table.now.0 value.now)) (table_site table.now) cells.now).out }
 {
     match value {
         ResolvedExpr::Bin { left, .. } => evaluate(alloc, table, cells, left.get()),
@@ -112,7 +114,60 @@ fn front(
     }
 }
 
-pub(crate) fn assign(
+/// Stores an expression's value.
+fn store_value(
+    alloc: Global,
+    table: &SlotTable,
+    cells: &mut Vec<Option<Value>>,
+    target: &ResolvedPlace,
+    value: &ResolvedExpr,
+) -> Result<(), EvalStop>
+    requires target { is_place_within (length table.now.0) target.now ≡ true }
+    requires value { is_within (length table.now.0) value.now ≡ true }
+    ensures { Sets table.now.0 result cells.new.items
+        (by_form None (table_site table.now) cells.old.items (place_back table.now.0 target.now) (expression_back table.now.0 value.now)).out }
+{
+    let value = evaluate(alloc, table, cells, value)?;
+    put(alloc, table, cells, target, value)
+}
+
+/// Adds a chain's terms after its first operand to the target.
+fn add_chain(
+    alloc: Global,
+    table: &SlotTable,
+    cells: &mut Vec<Option<Value>>,
+    target: &ResolvedPlace,
+    value: &ResolvedExpr,
+) -> Result<(), EvalStop>
+    requires target { is_place_within (length table.now.0) target.now ≡ true }
+    requires value { is_within (length table.now.0) value.now ≡ true }
+    ensures { Sets table.now.0 result cells.new.items
+        (by_form (Some Chain) (table_site table.now) cells.old.items (place_back table.now.0 target.now) (expression_back table.now.0 value.now)).out }
+{
+    let more = sum_of_chain(alloc, table, cells, value)?;
+    increment_place(alloc, table, cells, target, more)
+}
+
+/// Adds an operation's first operand to the target.
+fn add_front(
+    alloc: Global,
+    table: &SlotTable,
+    cells: &mut Vec<Option<Value>>,
+    target: &ResolvedPlace,
+    value: &ResolvedExpr,
+) -> Result<(), EvalStop>
+    requires target { is_place_within (length table.now.0) target.now ≡ true }
+    requires value { is_within (length table.now.0) value.now ≡ true }
+    ensures { Sets table.now.0 result cells.new.items
+        (by_form (Some Sum) (table_site table.now) cells.old.items (place_back table.now.0 target.now) (expression_back table.now.0 value.now)).out }
+{
+    let more = front(alloc, table, cells, value)?;
+    increment_place(alloc, table, cells, target, more.as_dual())
+}
+
+/// Runs an assignment, by its form where it is an increment. A call clears all locals of its function, so each form has
+/// a function of its own.
+pub fn assign(
     alloc: Global,
     table: &SlotTable,
     cells: &mut Vec<Option<Value>>,
@@ -122,21 +177,12 @@ pub(crate) fn assign(
 ) -> Result<(), EvalStop>
     requires target { is_place_within (length table.now.0) target.now ≡ true }
     requires value { is_within (length table.now.0) value.now ≡ true }
-    ensures { Sets result cells.new.items
+    ensures { Sets table.now.0 result cells.new.items
         (by_form form (table_site table.now) cells.old.items (place_back table.now.0 target.now) (expression_back table.now.0 value.now)).out }
 {
     match form {
-        None => {
-            let value = evaluate(alloc, table, cells, value)?;
-            put(alloc, table, cells, target, value)
-        }
-        Some(IncrementForm::Chain) => {
-            let more = sum_of_chain(alloc, table, cells, value)?;
-            increment_place(alloc, table, cells, target, more)
-        }
-        Some(IncrementForm::Sum) => {
-            let more = front(alloc, table, cells, value)?;
-            increment_place(alloc, table, cells, target, more.as_dual())
-        }
+        None => store_value(alloc, table, cells, target, value),
+        Some(IncrementForm::Chain) => add_chain(alloc, table, cells, target, value),
+        Some(IncrementForm::Sum) => add_front(alloc, table, cells, target, value),
     }
 }

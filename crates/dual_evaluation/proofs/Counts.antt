@@ -11,7 +11,7 @@ use Rattle.store_core.specs.Bounds.{clipped}
 use Rattle.meaning.specs.declared.value.IterationCount.{IterationCount}
 use Rattle.ring_core.specs.Index.{fits_index}
 use Rattle.meaning.specs.Statements.{turns_by, value_at}
-use Rattle.dual_meaning.specs.Running.{IsCounted}
+use Rattle.dual_evaluation.specs.Assignments.{IsCounted}
 use Rattle.meaning.proofs.Variables.{clipped_neg, variables_fit}
 
 pub down : (a d : ℤ) → a <ℤ pos 0 → d <ℤ pos 0 → unsigned_abs a / unsigned_abs d ≡ clipped (int_div a d)

@@ -2,9 +2,9 @@ use Rattle.std.proofs.Common.{◌≡◌, drop, length}
 use Rattle.std.specs.Prelude.{true}
 use Rattle.meaning.specs.Expressions.{values_of}
 use Rattle.resolved.specs.ResolvedExprs.{expressions_back, are_within}
-use Rattle.dual_meaning.specs.Answers.{with_front, numbers_of}
+use Rattle.dual_evaluation.specs.Answers.{with_front, numbers_of}
 use Rattle.resolved.specs.SlotTables.{table_site}
-use Rattle.dual_meaning.proofs.evaluator.+evaluate.Given as goal
+use Rattle.dual_evaluation.proofs.evaluator.+evaluate.Given as goal
 
 abbrev pub invariant-evaluate_all-loop-expr : goal.invariant-evaluate_all-loop-expr
 invariant-evaluate_all-loop-expr l = record {

@@ -5,13 +5,14 @@ ghost use Rattle.meaning.specs.Statements.{turns_by, turns_of as turns_of_lem, s
 ghost use Rattle.resolved.specs.SlotTables.{table_site};
 ghost use Rattle.resolved.specs.ResolvedExprs.{expression_back, is_within};
 ghost use Rattle.resolved.specs.ResolvedStmts.{option_back, is_option_within};
-ghost use Rattle.dual_meaning.specs.Answers.{Answers};
-ghost use Rattle.dual_meaning.specs.Running.{IsCounted};
+ghost use Rattle.dual_evaluation.specs.Answers.{Answers};
+ghost use Rattle.dual_evaluation.specs.Assignments.{IsCounted};
 ghost use Rattle.meaning.specs.declared.value.Value.TheVariants.{Index as index_value};
 
 use crate::assignment::set;
-use crate::evaluator::{EvalStop, evaluate};
-use meaning::{Cause, IterationCount, Value};
+use crate::evaluator::evaluate;
+use crate::stop::{EvalStop, Halt};
+use meaning::{IterationCount, Value};
 use resolved::{ResolvedExpr, ResolvedHead, SlotTable};
 use ring_core::Index;
 use std::alloc::Global;
@@ -38,12 +39,17 @@ fn turn_count(distance: i64, step: i64) -> u64
 }
 
 /// How often a loop with these bounds runs.
-fn turns_between(first: i32, last: i32, step: i32) -> Result<IterationCount, Cause>
-    ensures value { result ≡ (turns_by first last step).out }
+fn turns_between(
+    table: &SlotTable,
+    first: i32,
+    last: i32,
+    step: i32,
+) -> Result<IterationCount, EvalStop>
+    ensures value { Answers table.now.0 result (turns_by first last step).out }
     ensures counted { IfOk result IsCounted }
 {
     if step == 0 {
-        return Err(Cause::ZeroDivisor);
+        return Err(EvalStop::Trap(Halt::ZeroDivisor));
     }
     let distance = i64::from(last) - i64::from(first) + i64::from(step);
     let count = turn_count(distance, i64::from(step));
@@ -62,7 +68,7 @@ fn step_of(
     step: &Option<ResolvedExpr>,
 ) -> Result<Value, EvalStop>
     requires { is_option_within (length table.now.0) step.now ≡ true }
-    ensures { Answers result (step_value (option_back table.now.0 step.now) (table_site table.now) cells.now).out }
+    ensures { Answers table.now.0 result (step_value (option_back table.now.0 step.now) (table_site table.now) cells.now).out }
 {
     match step {
         None => Ok(Value::Index(Index::of(1))),
@@ -70,7 +76,8 @@ fn step_of(
     }
 }
 
-pub(crate) fn turns_of(
+/// The turns of a loop.
+pub fn turns_of(
     alloc: Global,
     table: &SlotTable,
     cells: &[Option<Value>],
@@ -79,7 +86,7 @@ pub(crate) fn turns_of(
     requires first { is_within (length table.now.0) head.now.first ≡ true }
     requires last { is_within (length table.now.0) head.now.last ≡ true }
     requires step { is_option_within (length table.now.0) head.now.step ≡ true }
-    ensures value { Answers result (turns_of_lem (expression_back table.now.0 head.now.first) (expression_back table.now.0 head.now.last)
+    ensures value { Answers table.now.0 result (turns_of_lem (expression_back table.now.0 head.now.first) (expression_back table.now.0 head.now.last)
         (option_back table.now.0 head.now.step) (table_site table.now) cells.now).out }
     ensures counted { IfOk result IsCounted }
 {
@@ -87,6 +94,7 @@ pub(crate) fn turns_of(
     let last = evaluate(alloc, table, cells, &head.last)?;
     let step = step_of(alloc, table, cells, &head.step)?;
     Ok(turns_between(
+        table,
         first.whole_number(),
         last.whole_number(),
         step.whole_number(),
@@ -122,7 +130,7 @@ fn value_in(first: i32, step: i32, turn: u64) -> i32
 }
 
 /// Sets a loop's variable for a turn, where it has a place.
-pub(crate) fn begin_turn(
+pub fn begin_turn(
     cells: &mut Vec<Option<Value>>,
     place: Option<u32>,
     first: i32,
