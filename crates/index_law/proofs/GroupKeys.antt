@@ -1,16 +1,14 @@
 -- Groups stand at sites with the keys of the run.
-use Rattle.std.proofs.Common.{◌≡◌, ℕ, zero, suc, ◌+◌, Bool, true, false, ◌⊎◌, List, [], ◌∷◌, ◌++◌, refl, ap, sym, ◌∙◌, Option, Some, None, Result, Ok, Err}
+use Rattle.std.proofs.Common.{◌≡◌, ℕ, zero, suc, ◌+◌, Bool, true, false, ◌⊎◌, List, [], ◌∷◌, ◌++◌, refl, ap, sym, ◌∙◌, Result, Ok, Err}
 use Rattle.std.specs.Prelude.{if◌then◌else◌}
 use mathlib.Core.Logic.{inl, inr}
-use Rattle.fl_ast.specs.declared.directive.Directive.{Directive}
-use Rattle.fl_ast.specs.Tree.{Expression, Condition, Statement, assignment, branch, loop, Statements, no_statements, statement, Arms, no_arms, arm}
+use Rattle.fl_ast.specs.Tree.{Statement, assignment, branch, loop, Statements, no_statements, statement, Arms, no_arms, arm}
 use Rattle.fl_types.specs.declared.access.PathStep.{PathStep}
 use Rattle.fl_types.specs.declared.access.PathStep.TheVariants.{Arm, Body}
 use Rattle.fl_types.specs.Accesses.{statement_count, statements_count}
 use Rattle.fl_types.specs.Nests.{iteration_body}
 use Rattle.fl_types.specs.Sharing.{ParallelLoop}
-use Rattle.store_core.specs.Keys.{same_key, first_at}
-use Rattle.meaning.specs.Sites.{Key, Cells, Site, in_turn, in_iteration}
+use Rattle.meaning.specs.Sites.{Cells, Site, in_turn, in_iteration}
 use Rattle.meaning.specs.Expressions.{holds}
 use Rattle.meaning.specs.Statements.{Run, turns_of, value_at, turns, one_turn, Heads, run, run_all}
 use Rattle.meaning.specs.Reached.{cells_with, iteration_cells}

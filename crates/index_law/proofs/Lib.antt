@@ -7,3 +7,8 @@ pub mod Respects
 pub mod Steps
 pub mod Iterations
 pub mod Variables
+pub mod Starts
+pub mod Valuations
+pub mod Elements
+pub mod Fixed
+pub mod Scatter
