@@ -54,7 +54,7 @@ body_out : (b : Bool) (body : Statements) (s : Site) (c d : Cells) → ((if b th
 body_out true body s c d h = inner_out body s c d h
 body_out false body s c d h = h
 
-iteration_out : (site : Site) (l : ParallelLoop) (heads : Heads) (k : ℕ) (c d : Cells) → (iteration_of site l heads k c).out ≡ Ok d →
+pub iteration_out : (site : Site) (l : ParallelLoop) (heads : Heads) (k : ℕ) (c d : Cells) → (iteration_of site l heads k c).out ≡ Ok d →
     (run_all (iteration_body l.directive l.body) (in_iteration site l.directive l.var l.body) (iteration_cells site l.directive l.var l.body heads k c)).out ≡ Ok d
 iteration_out site l heads k c d h =
     let names = private_names site l.directive l.var l.body in

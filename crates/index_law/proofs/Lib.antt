@@ -12,3 +12,5 @@ pub mod Valuations
 pub mod Elements
 pub mod Fixed
 pub mod Scatter
+pub mod Shapes
+pub mod Paths

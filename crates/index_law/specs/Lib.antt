@@ -7,3 +7,4 @@ pub mod Variables
 pub mod Starts
 pub mod Valuations
 pub mod Fixed
+pub mod Paths

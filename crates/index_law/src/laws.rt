@@ -1,5 +1,6 @@
 //! Laws on the definitions of forms and of runs.
 
+ghost use Rattle.index_law.specs.Paths.{PathsAreFollowed, IterationsFollowPaths};
 ghost use Rattle.index_law.specs.Fixed.{FixedIsUnwritten, FixedAtStart, FixedAfter, FixedInside};
 ghost use Rattle.index_law.specs.Valuations.{ValuationsStand, ReadsAreElements};
 ghost use Rattle.index_law.specs.Variables.{VariablesHold};
@@ -70,4 +71,11 @@ pub fn fixed_arrays_stay()
     ensures start { FixedAtStart }
     ensures after { FixedAfter }
     ensures inside { FixedInside }
+{}
+
+/// Statements, and an iteration of a parallel loop, that went through and came to an access came to every access whose path is the
+/// beginning of its path.
+pub fn paths_are_followed()
+    ensures statements { PathsAreFollowed }
+    ensures iterations { IterationsFollowPaths }
 {}
