@@ -1,23 +1,21 @@
 -- Groups stand at sites with the keys of the run.
-use Rattle.std.proofs.Common.{◌≡◌, ℕ, zero, suc, ◌+◌, Bool, true, false, ◌⊎◌, List, [], ◌∷◌, ◌++◌, refl, ap, sym, ◌∙◌, Option, Some, None, Result, Ok, Err}
+use Rattle.std.proofs.Common.{◌≡◌, ℕ, zero, suc, ◌+◌, Bool, true, false, ◌⊎◌, List, [], ◌∷◌, ◌++◌, refl, ap, sym, ◌∙◌, Result, Ok, Err}
 use Rattle.std.specs.Prelude.{if◌then◌else◌}
 use mathlib.Core.Logic.{inl, inr}
-use Rattle.fl_ast.specs.declared.directive.Directive.{Directive}
-use Rattle.fl_ast.specs.Tree.{Expression, Condition, Statement, assignment, branch, loop, Statements, no_statements, statement, Arms, no_arms, arm}
+use Rattle.fl_ast.specs.Tree.{Statement, assignment, branch, loop, Statements, no_statements, statement, Arms, no_arms, arm}
 use Rattle.fl_types.specs.declared.access.PathStep.{PathStep}
 use Rattle.fl_types.specs.declared.access.PathStep.TheVariants.{Arm, Body}
 use Rattle.fl_types.specs.Accesses.{statement_count, statements_count}
 use Rattle.fl_types.specs.Nests.{iteration_body}
 use Rattle.fl_types.specs.Sharing.{ParallelLoop}
-use Rattle.store_core.specs.Keys.{same_key, first_at}
-use Rattle.meaning.specs.Sites.{Key, Cells, Site, in_turn, in_iteration}
+use Rattle.meaning.specs.Sites.{Cells, Site, in_turn, in_iteration}
 use Rattle.meaning.specs.Expressions.{holds}
 use Rattle.meaning.specs.Statements.{Run, turns_of, value_at, turns, one_turn, Heads, run, run_all}
 use Rattle.meaning.specs.Reached.{cells_with, iteration_cells}
 use Rattle.meaning.specs.Groups.{Group, groups_from, groups_of_turns, groups_of, groups_of_all, groups_of_arms, groups_of_iteration}
 use Rattle.index_law.specs.Meetings.{In}
 
-split : {A : Type 0} (x : A) (xs ys : List A) → In x (xs ++ ys) → In x xs ⊎ In x ys
+pub split : {A : Type 0} (x : A) (xs ys : List A) → In x (xs ++ ys) → In x xs ⊎ In x ys
 split x [] ys h = inr h
 split x (y ∷ xs) ys (inl e) = inl (inl e)
 split x (y ∷ xs) ys (inr h) = again (split x xs ys h)
@@ -26,20 +24,20 @@ split x (y ∷ xs) ys (inr h) = again (split x xs ys h)
     again (inl m) = inl (inr m)
     again (inr m) = inr m
 
-from_result : {X A : Type 0} (P : Type 0) (g : Group) (r : Result A X) (f : A → List Group) → ((a : A) → In g (f a) → P) → In g (groups_from r f) → P
+pub from_result : {X A : Type 0} (P : Type 0) (g : Group) (r : Result A X) (f : A → List Group) → ((a : A) → In g (f a) → P) → In g (groups_from r f) → P
 from_result P g (Ok a) f h m = h a m
 from_result P g (Err x) f h m = absurd m
 
-by_side : {A B : Type 0} (P : Type 0) → A ⊎ B → (A → P) → (B → P) → P
+pub by_side : {A B : Type 0} (P : Type 0) → A ⊎ B → (A → P) → (B → P) → P
 by_side P (inl a) f g = f a
 by_side P (inr b) f g = g b
 
-from_turns : (P : Type 0) (g : Group) (n : ℕ) (f : ℕ → Run) (gs : ℕ → Cells → List Group) (cells : Cells) → ((k : ℕ) (c : Cells) → In g (gs k c) → P) → In g (groups_of_turns n f gs cells) → P
+pub from_turns : (P : Type 0) (g : Group) (n : ℕ) (f : ℕ → Run) (gs : ℕ → Cells → List Group) (cells : Cells) → ((k : ℕ) (c : Cells) → In g (gs k c) → P) → In g (groups_of_turns n f gs cells) → P
 from_turns P g zero f gs cells h m = absurd m
 from_turns P g (suc n) f gs cells h m =
     by_side P (split g (groups_of_turns n f gs cells) (groups_from (turns n f cells).out (gs n)) m) (from_turns P g n f gs cells h) (from_result P g (turns n f cells).out (gs n) (h n))
 
-from_choice : (P : Type 0) (g : Group) (b : Bool) (xs ys : List Group) → (In g xs → P) → (In g ys → P) → In g (if b then xs else ys) → P
+pub from_choice : (P : Type 0) (g : Group) (b : Bool) (xs ys : List Group) → (In g xs → P) → (In g ys → P) → In g (if b then xs else ys) → P
 from_choice P g true xs ys h k m = h m
 from_choice P g false xs ys h k m = k m
 

@@ -1,44 +1,29 @@
 -- What a parallel loop doesn't write stays through its iterations.
-use Rattle.std.proofs.Common.{◌≡◌, ◌≢◌, ℕ, zero, suc, Bool, true, false, ◌||◌, ℤ, List, [], ◌∷◌, refl, ap, sym, ◌∙◌, subst, Option, Some, None, Result, Ok, Err}
+use Rattle.std.proofs.Common.{◌≡◌, ℕ, zero, suc, Bool, true, false, ℤ, List, [], ◌∷◌, refl, ap, sym, ◌∙◌, Some, None, Ok}
 use Rattle.std.specs.Prelude.{bytes_eq, if◌then◌else◌, ◌/◌, ◌%◌}
-use Rattle.std.proofs.lemmas.Slice.Eq.{bytes_eq-Decides}
-use Rattle.fl_ast.specs.declared.directive.Directive.{Directive}
-use Rattle.fl_ast.specs.Tree.{Statement, assignment, branch, loop, Statements, no_statements, statement}
+use Rattle.fl_ast.specs.Tree.{assignment, branch, loop, Statements, no_statements, statement}
 use Rattle.fl_types.specs.Nests.{is_nest, inner_body, iteration_body}
-use Rattle.fl_types.specs.Sharing.{has_name, assigns_in, ParallelLoop}
-use Rattle.store_core.specs.Scopes.{scopes_in}
-use Rattle.meaning.specs.declared.value.Value.{Value}
+use Rattle.fl_types.specs.Sharing.{has_name, ParallelLoop}
 use Rattle.meaning.specs.declared.value.Value.TheVariants.{Index}
 use Rattle.meaning.specs.Logs.{Log}
 use Rattle.meaning.specs.Sites.{Cells, Site, place_of, in_iteration}
-use Rattle.meaning.specs.Statements.{Run, with_log, content_at, set_at, turns, value_at, private_names, private_words, with_all_unset, unset_log, Heads, iterations, with_variables, one_iteration, run_all, run_inner}
+use Rattle.meaning.specs.Statements.{Run, with_log, set_at, turns, value_at, private_names, private_words, with_all_unset, unset_log, Heads, iterations, with_variables, run_all, run_inner}
 use Rattle.meaning.specs.Sequential.{are_sequential}
 use Rattle.meaning.specs.Frame.{content_by_name}
 use Rattle.meaning.specs.Reached.{cells_with, cells_with_heads, iteration_cells}
 use Rattle.meaning.specs.Groups.{iteration_of}
-use Rattle.meaning.proofs.Contents.{content_set_other, place_named}
-use Rattle.meaning.proofs.Storing.{names_kept}
 use Rattle.meaning.proofs.Parts.{bound}
-use Rattle.index_forms.specs.Loops.{written_in}
 use Rattle.index_law.specs.Iterations.{head_names, Stays}
-use Rattle.index_law.proofs.Steps.{or_first, or_second, or_both, unwritten_all}
+use Rattle.index_law.proofs.Steps.{or_first, or_second, other_set, all_kept}
 
 -- ---- other names
-
-other_set : (site : Site) (y : List ℕ) (w : Option Value) (c : Cells) (x : List ℕ) (ss : List ℤ) → bytes_eq x y ≡ false → content_by_name site (set_at (place_of site y []) w c) x ss ≡ content_by_name site c x ss
-other_set site y w c x ss e = by_places (place_of site y []) (place_of site x ss) refl refl
-  where
-    by_places : (o u : Option ℕ) → place_of site y [] ≡ o → place_of site x ss ≡ u → content_at (set_at o w c) u ≡ content_at c u
-    by_places None u g h = refl
-    by_places (Some q) None g h = refl
-    by_places (Some q) (Some p) g h = content_set_other c q p w (λ i. (let m : x ≡ y = place_named site.keys x y ss [] p q i h g in let t : true ≡ false = sym ((bytes_eq-Decides x y).1 m) ∙ e in cc))
 
 unset_kept : (site : Site) (names : List (List ℕ)) (c : Cells) (x : List ℕ) (ss : List ℤ) → has_name x names ≡ false → content_by_name site (with_all_unset site names c) x ss ≡ content_by_name site c x ss
 unset_kept site [] c x ss e = refl
 unset_kept site (y ∷ names) c x ss e =
     unset_kept site names (set_at (place_of site y []) None c) x ss (or_second (bytes_eq x y) (has_name x names) e) ∙ other_set site y None c x ss (or_first (bytes_eq x y) (has_name x names) e)
 
-heads_kept : (site : Site) (heads : Heads) (k : ℕ) (c : Cells) (x : List ℕ) (ss : List ℤ) → has_name x (head_names heads) ≡ false → content_by_name site (cells_with_heads site heads k c) x ss ≡ content_by_name site c x ss
+pub heads_kept : (site : Site) (heads : Heads) (k : ℕ) (c : Cells) (x : List ℕ) (ss : List ℤ) → has_name x (head_names heads) ≡ false → content_by_name site (cells_with_heads site heads k c) x ss ≡ content_by_name site c x ss
 heads_kept site [] k c x ss e = refl
 heads_kept site (h ∷ []) k c x ss e = other_set site h.0 (Some (Index (value_at h.1 k))) c x ss (or_first (bytes_eq x h.0) false e)
 heads_kept site (h ∷ g ∷ hs) k c x ss e =
@@ -69,7 +54,7 @@ body_out : (b : Bool) (body : Statements) (s : Site) (c d : Cells) → ((if b th
 body_out true body s c d h = inner_out body s c d h
 body_out false body s c d h = h
 
-iteration_out : (site : Site) (l : ParallelLoop) (heads : Heads) (k : ℕ) (c d : Cells) → (iteration_of site l heads k c).out ≡ Ok d →
+pub iteration_out : (site : Site) (l : ParallelLoop) (heads : Heads) (k : ℕ) (c d : Cells) → (iteration_of site l heads k c).out ≡ Ok d →
     (run_all (iteration_body l.directive l.body) (in_iteration site l.directive l.var l.body) (iteration_cells site l.directive l.var l.body heads k c)).out ≡ Ok d
 iteration_out site l heads k c d h =
     let names = private_names site l.directive l.var l.body in
@@ -79,17 +64,12 @@ iteration_out site l heads k c d h =
     let e : (inner s (iteration_cells site l.directive l.var l.body heads k c)).out ≡ Ok b.value = sym (variables_out site heads k (inner s) (with_all_unset site names c)) ∙ b.first in
     body_out (is_nest l.directive l.body) l.body s (iteration_cells site l.directive l.var l.body heads k c) d (e ∙ ap Ok (with_log_same (private_words site l.body names b.value) b.value d b.second))
 
-body_kept : (body : Statements) (site : Site) (c d : Cells) → are_sequential body ≡ true → (run_all body site c).out ≡ Ok d → (x : List ℕ) → has_name x (written_in body) ≡ false → (ss : List ℤ) → content_by_name site d x ss ≡ content_by_name site c x ss
-body_kept body site c d q r x h ss =
-    let u = unwritten_all x body q h in
-    names_kept body site c d r x (or_both (assigns_in x body) (scopes_in x body) u.0 u.1) ss
-
 turns_stay : (site : Site) (l : ParallelLoop) (heads : Heads) → are_sequential (iteration_body l.directive l.body) ≡ true → (k : ℕ) (cells c : Cells) → (turns k (iteration_of site l heads) cells).out ≡ Ok c →
     (x : List ℕ) → Stays site l heads x → (ss : List ℤ) → content_by_name site c x ss ≡ content_by_name site cells x ss
 turns_stay site l heads q zero cells c r x w ss = let i : cells ≡ c = cc in ap (λ (z : Cells). content_by_name site z x ss) (sym i)
 turns_stay site l heads q (suc k) cells c r x w ss =
     let b = bound (turns k (iteration_of site l heads) cells) (iteration_of site l heads k) c r in
-    body_kept (iteration_body l.directive l.body) (in_iteration site l.directive l.var l.body) (iteration_cells site l.directive l.var l.body heads k b.value) c q (iteration_out site l heads k b.value c b.second) x w.unwritten ss
+    all_kept (iteration_body l.directive l.body) (in_iteration site l.directive l.var l.body) (iteration_cells site l.directive l.var l.body heads k b.value) c q (iteration_out site l heads k b.value c b.second) x w.unwritten ss
     ∙ (begun_kept site l heads k b.value x ss w ∙ turns_stay site l heads q k cells b.value b.first x w ss)
 
 pub invariants_hold : (site : Site) (l : ParallelLoop) (heads : Heads) → are_sequential (iteration_body l.directive l.body) ≡ true →

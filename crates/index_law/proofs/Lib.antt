@@ -7,3 +7,10 @@ pub mod Respects
 pub mod Steps
 pub mod Iterations
 pub mod Variables
+pub mod Starts
+pub mod Valuations
+pub mod Elements
+pub mod Fixed
+pub mod Scatter
+pub mod Shapes
+pub mod Paths

@@ -1,18 +1,17 @@
 -- In a run without a conflict, accesses of which one writes don't meet.
-use Rattle.std.proofs.Common.{◌≡◌, ◌≢◌, ℕ, zero, suc, ◌<◌, Bool, true, false, ◌⊎◌, List, [], ◌∷◌, ◌++◌, map, refl, ap, sym, ◌∙◌, subst, arith, Option, Some, None, Result, Ok, Err, Contains}
+use Rattle.std.proofs.Common.{◌≡◌, ◌≢◌, ℕ, zero, suc, ◌<◌, Bool, true, false, ◌⊎◌, List, [], ◌∷◌, ◌++◌, map, refl, ap, sym, subst, arith, Option, Some, None, Result, Ok, Contains}
 use mathlib.Core.Logic.{inl, inr}
 use Rattle.std.specs.Prelude.{nat_lt, nat_eq, option_map}
 use Rattle.std.proofs.lemmas.Bool.Decides.{nat_tests}
 use Rattle.std.proofs.lemmas.List.Elements.{Contains-append_left, Contains-append_right, Contains-push}
 use Rattle.fl_types.specs.declared.access.AccessKind.{AccessKind}
 use Rattle.fl_types.specs.declared.access.AccessKind.TheVariants.{Read, Write, Update}
-use Rattle.fl_types.specs.Accesses.{Occurrence}
 use Rattle.fl_types.specs.Sharing.{ParallelLoop}
 use Rattle.meaning.specs.declared.value.TrapAt.{TrapAt}
 use Rattle.meaning.specs.Logs.{Touch}
 use Rattle.meaning.specs.Sites.{Cells, Site}
 use Rattle.meaning.specs.Statements.{Heads, iterations, turns}
-use Rattle.meaning.specs.Conflicts.{clashes, Clash, IsClash, Reports, conflict}
+use Rattle.meaning.specs.Conflicts.{clashes, Clash, Reports, conflict}
 use Rattle.meaning.specs.Touches.{touches_in, touch_of}
 use Rattle.meaning.specs.Groups.{Group, iteration_of, groups_of_iteration, touches_of_groups, touches_from, touches_of_iterations}
 use Rattle.meaning.proofs.Reported.{reported}

@@ -1,10 +1,9 @@
 -- What is known of scalars stays true along a run.
-use Rattle.std.proofs.Common.{◌≡◌, ◌≢◌, ℕ, zero, suc, Bool, true, false, ◌&&◌, ◌||◌, ℤ, List, [], ◌∷◌, ◌++◌, refl, ap, sym, ◌∙◌, subst, arith, Option, Some, None, Result, Ok, Err}
-use Rattle.std.specs.Prelude.{slice_set, bytes_eq, if◌then◌else◌, is_none}
+use Rattle.std.proofs.Common.{◌≡◌, ℕ, zero, suc, Bool, true, false, ◌||◌, ℤ, List, [], ◌∷◌, ◌++◌, refl, ap, sym, ◌∙◌, subst, arith, Option, Some, None, Result, Ok}
+use Rattle.std.specs.Prelude.{slice_set, bytes_eq, if◌then◌else◌}
 use Rattle.std.proofs.lemmas.Int.{ints}
 use Rattle.std.proofs.lemmas.Bool.{and_parts}
 use Rattle.std.proofs.lemmas.Slice.Eq.{bytes_eq-Decides}
-use Rattle.fl_ast.specs.declared.directive.Directive.{Directive}
 use Rattle.fl_ast.specs.Tree.{Expressions, no_expressions, expression, Statement, assignment, branch, loop, Statements, no_statements, statement, Arms, no_arms, arm}
 use Rattle.fl_types.specs.Sharing.{has_name, assigns, assigns_in, assigns_in_arms}
 use Rattle.store_core.specs.Scopes.{scopes, scopes_in, scopes_in_arms}
@@ -26,7 +25,7 @@ use Rattle.index_forms.specs.Form.{Atom, Form, inner, version}
 use Rattle.index_forms.specs.Sums.{value}
 use Rattle.index_forms.specs.Formed.{Known, atom_form}
 use Rattle.index_forms.specs.Loops.{names_by, names_in, names_in_arms, written_by, written_in}
-use Rattle.index_forms.specs.Walk.{without, version_form, known_after, in_turn_of, known_inside}
+use Rattle.index_forms.specs.Walk.{without, version_form, known_after, known_inside}
 use Rattle.index_law.specs.Worth.{HoldsKnown}
 use Rattle.index_law.specs.Steps.{HasStored}
 
@@ -84,19 +83,19 @@ mutual
       let b = unwritten_arms x arms c.1 (or_second (has_name x (names_in true body)) (has_name x (names_in_arms true arms)) w) in
       (or_both (assigns_in x body) (assigns_in_arms x arms) a.0 b.0, or_both (scopes_in x body) (scopes_in_arms x arms) a.1 b.1)
 
-all_kept : (body : Statements) (site : Site) (c d : Cells) → are_sequential body ≡ true → (run_all body site c).out ≡ Ok d → (x : List ℕ) → has_name x (written_in body) ≡ false → content_by_name site d x [] ≡ content_by_name site c x []
+pub all_kept : (body : Statements) (site : Site) (c d : Cells) → are_sequential body ≡ true → (run_all body site c).out ≡ Ok d → (x : List ℕ) → has_name x (written_in body) ≡ false → (ss : List ℤ) → content_by_name site d x ss ≡ content_by_name site c x ss
 all_kept body site c d q r x h =
     let u = unwritten_all x body q h in
-    names_kept body site c d r x (or_both (assigns_in x body) (scopes_in x body) u.0 u.1) []
+    names_kept body site c d r x (or_both (assigns_in x body) (scopes_in x body) u.0 u.1)
 
 then_ok : {X A B : Type 0} (t : Traced X A) (f : A → Traced X B) (a : A) (b : B) → t.out ≡ Ok a → (f a).out ≡ Ok b → (t >>= f).out ≡ Ok b
 then_ok {X} {A} {B} t f a b h g = subst (λ (o : Result A X). (continuation t.log o f).out ≡ Ok b) (sym h) g
 
-one_kept : (s : Statement) (site : Site) (c d : Cells) → is_sequential s ≡ true → (run s site c).out ≡ Ok d → (x : List ℕ) → has_name x (written_by s) ≡ false → content_by_name site d x [] ≡ content_by_name site c x []
+pub one_kept : (s : Statement) (site : Site) (c d : Cells) → is_sequential s ≡ true → (run s site c).out ≡ Ok d → (x : List ℕ) → has_name x (written_by s) ≡ false → (ss : List ℤ) → content_by_name site d x ss ≡ content_by_name site c x ss
 one_kept s site c d q r x h =
     let u = unwritten x s q h in
     names_kept (statement s no_statements) site c d (then_ok (run s site c) (run_all no_statements site) d d r refl) x
-    (or_both (assigns_in x (statement s no_statements)) (scopes_in x (statement s no_statements)) (or_both (assigns x s) false u.0 refl) (or_both (scopes x s) false u.1 refl)) []
+    (or_both (assigns_in x (statement s no_statements)) (scopes_in x (statement s no_statements)) (or_both (assigns x s) false u.0 refl) (or_both (scopes x s) false u.1 refl))
 
 -- ---- what is known
 
@@ -127,41 +126,41 @@ known_after_holds v side n (assignment line atomic p e) k site c d q r a h x f z
         let m : x ≡ p.name = (bytes_eq-Decides x p.name).0 t in
         let w : v (version side n p.name) ≡ z = a z (subst (λ (y : List ℕ). content_by_name site d y [] ≡ Some (Index z)) m g) in
         holds_version v side n x p.subscripts f z j (ap (λ (y : List ℕ). v (version side n y)) m ∙ w)
-    by_test false t j = h x f z j (sym (one_kept (assignment line atomic p e) site c d q r x (or_both (bytes_eq x p.name) false t refl)) ∙ g)
+    by_test false t j = h x f z j (sym (one_kept (assignment line atomic p e) site c d q r x (or_both (bytes_eq x p.name) false t refl) []) ∙ g)
 known_after_holds v side n (branch line arms other) k site c d q r a h x f z i g =
-    holds_without v (written_by (branch line arms other)) k site c d (one_kept (branch line arms other) site c d q r) h x f z i g
+    holds_without v (written_by (branch line arms other)) k site c d (λ y u. one_kept (branch line arms other) site c d q r y u []) h x f z i g
 known_after_holds v side n (loop line number directive var low high step body) k site c d q r a h x f z i g =
-    holds_without v (written_by (loop line number directive var low high step body)) k site c d (one_kept (loop line number directive var low high step body) site c d q r) h x f z i g
+    holds_without v (written_by (loop line number directive var low high step body)) k site c d (λ y u. one_kept (loop line number directive var low high step body) site c d q r y u []) h x f z i g
 
 -- ---- the variable of a loop
 
-other_kept : (site : Site) (var : List ℕ) (z : ℤ) (c : Cells) (x : List ℕ) → bytes_eq x var ≡ false → content_by_name site (cells_with site var z c) x [] ≡ content_by_name site c x []
-other_kept site var z c x e = by_places (place_of site var []) (place_of site x []) refl refl
+pub other_set : (site : Site) (y : List ℕ) (w : Option Value) (c : Cells) (x : List ℕ) (ss : List ℤ) → bytes_eq x y ≡ false → content_by_name site (set_at (place_of site y []) w c) x ss ≡ content_by_name site c x ss
+other_set site y w c x ss e = by_places (place_of site y []) (place_of site x ss) refl refl
   where
-    by_places : (o u : Option ℕ) → place_of site var [] ≡ o → place_of site x [] ≡ u → content_at (set_at o (Some (Index z)) c) u ≡ content_at c u
+    by_places : (o u : Option ℕ) → place_of site y [] ≡ o → place_of site x ss ≡ u → content_at (set_at o w c) u ≡ content_at c u
     by_places None u g h = refl
     by_places (Some q) None g h = refl
-    by_places (Some q) (Some p) g h = content_set_other c q p (Some (Index z)) (λ i. (let m : x ≡ var = place_named site.keys x var [] [] p q i h g in let t : true ≡ false = sym ((bytes_eq-Decides x var).1 m) ∙ e in cc))
+    by_places (Some q) (Some p) g h = content_set_other c q p w (λ i. (let m : x ≡ y = place_named site.keys x y ss [] p q i h g in let t : true ≡ false = sym ((bytes_eq-Decides x y).1 m) ∙ e in cc))
 
 set_is : (s : Cells) (q : ℕ) (w u : Value) → content (slice_set s q (Some w)) q ≡ Some u → w ≡ u
 set_is [] q w u h = cc
 set_is (a ∷ s) zero w u h = cc
 set_is (a ∷ s) (suc q) w u h = set_is s q w u h
 
-variable_is : (site : Site) (var : List ℕ) (y : ℤ) (c : Cells) (z : ℤ) → content_by_name site (cells_with site var y c) var [] ≡ Some (Index z) → y ≡ z
+pub variable_is : (site : Site) (var : List ℕ) (y : ℤ) (c : Cells) (z : ℤ) → content_by_name site (cells_with site var y c) var [] ≡ Some (Index z) → y ≡ z
 variable_is site var y c z h = by_place (place_of site var []) h
   where
     by_place : (o : Option ℕ) → content_at (set_at o (Some (Index y)) c) o ≡ Some (Index z) → y ≡ z
     by_place None g = cc
     by_place (Some q) g = let i : Index y ≡ Index z = set_is c q (Index y) (Index z) g in cc
 
-turns_kept : (site : Site) (var : List ℕ) (t : IterationCount) (body : Statements) → are_sequential body ≡ true → (m : ℕ) (c d : Cells) → (turns m (one_turn site var t (run_all body)) c).out ≡ Ok d →
-    (x : List ℕ) → bytes_eq x var ≡ false → has_name x (written_in body) ≡ false → content_by_name site d x [] ≡ content_by_name site c x []
-turns_kept site var t body q zero c d r x e h = let i : c ≡ d = cc in ap (λ (w : Cells). content_by_name site w x []) (sym i)
-turns_kept site var t body q (suc m) c d r x e h =
+pub turns_kept : (site : Site) (var : List ℕ) (t : IterationCount) (body : Statements) → are_sequential body ≡ true → (m : ℕ) (c d : Cells) → (turns m (one_turn site var t (run_all body)) c).out ≡ Ok d →
+    (x : List ℕ) → bytes_eq x var ≡ false → has_name x (written_in body) ≡ false → (ss : List ℤ) → content_by_name site d x ss ≡ content_by_name site c x ss
+turns_kept site var t body q zero c d r x e h ss = let i : c ≡ d = cc in ap (λ (w : Cells). content_by_name site w x ss) (sym i)
+turns_kept site var t body q (suc m) c d r x e h ss =
     let b = bound (turns m (one_turn site var t (run_all body)) c) (one_turn site var t (run_all body) m) d r in
-    all_kept body (in_turn site var) (cells_with site var (value_at t m) b.value) d q b.second x h
-    ∙ (other_kept site var (value_at t m) b.value x e ∙ turns_kept site var t body q m c b.value b.first x e h)
+    all_kept body (in_turn site var) (cells_with site var (value_at t m) b.value) d q b.second x h ss
+    ∙ (other_set site var (Some (Index (value_at t m))) b.value x ss e ∙ turns_kept site var t body q m c b.value b.first x e h ss)
 
 pub known_inside_holds : (v : Atom → ℤ) (side : Side) (number : ℕ) (var : List ℕ) (body : Statements) (k : Known) (site : Site) (cells c : Cells) (t : IterationCount) (m : ℕ) → are_sequential body ≡ true →
     (turns m (one_turn site var t (run_all body)) cells).out ≡ Ok c → v (inner side number) ≡ value_at t m →
@@ -175,4 +174,4 @@ known_inside_holds v side number var body k site cells c t m q r a h x f z i g =
         let p : atom_form (inner side number) ≡ f = cc in
         ap (value v) (sym p) ∙ (worth_atom v (inner side number) ∙ (a ∙ variable_is site var (value_at t m) c z (subst (λ (y : List ℕ). content_by_name site (cells_with site var (value_at t m) c) y [] ≡ Some (Index z)) w g)))
     by_tests false false e j l =
-        h x f z l (sym (turns_kept site var t body q m cells c r x j e) ∙ (sym (other_kept site var (value_at t m) c x j) ∙ g))
+        h x f z l (sym (turns_kept site var t body q m cells c r x j e []) ∙ (sym (other_set site var (Some (Index (value_at t m))) c x [] j) ∙ g))

@@ -12,16 +12,15 @@ use Rattle.store_core.specs.Bounds.{clipped}
 use Rattle.meaning.specs.declared.value.Dual.{Dual}
 use Rattle.meaning.specs.declared.value.Value.{Value}
 use Rattle.meaning.specs.declared.value.Value.TheVariants.{Index, Ring}
-use Rattle.meaning.specs.declared.value.Cause.{Cause}
 use Rattle.meaning.specs.declared.value.Cause.TheVariants.{ZeroDivisor}
 use Rattle.meaning.specs.declared.value.IterationCount.{IterationCount}
 use Rattle.meaning.specs.Values.{of_index, whole_number, literal_value, negation_result, dual_neg}
-use Rattle.meaning.specs.Logs.{Traced, pure, lift, ◌>>=◌}
+use Rattle.meaning.specs.Logs.{pure, lift, ◌>>=◌}
 use Rattle.meaning.specs.Sites.{Cells, Site}
 use Rattle.meaning.specs.Expressions.{value_of}
 use Rattle.meaning.specs.Statements.{turns_by, step_value, turns_of, value_at}
 use Rattle.meaning.proofs.Parts.{bound}
-use Rattle.index_forms.specs.Form.{Atom, Form}
+use Rattle.index_forms.specs.Form.{Atom}
 use Rattle.index_forms.specs.Sums.{value}
 use Rattle.index_forms.specs.Formed.{atom_form}
 use Rattle.index_forms.specs.Loops.{literal_number, signed_number, step_number, base_form, variable_by, variable_form}

@@ -1,10 +1,10 @@
 -- What a sum of forms is worth.
-use Rattle.std.proofs.Common.{◌≡◌, ℕ, zero, suc, Bool, true, false, ℤ, pos, negsuc, ◌+ℤ◌, ◌*ℤ◌, ◌-ℤ◌, neg_ℤ, List, [], ◌∷◌, refl, sym, ap, ◌∙◌, subst, arith, rules, All, length}
+use Rattle.std.proofs.Common.{◌≡◌, zero, suc, ℤ, pos, negsuc, ◌+ℤ◌, ◌*ℤ◌, ◌-ℤ◌, refl, ap, arith}
 use Rattle.std.proofs.lemmas.Int.{ints}
 use Rattle.std.specs.declared.cmp.Ordering.{Ordering}
 use Rattle.std.specs.declared.cmp.Ordering.TheVariants.{Less, Equal, Greater}
-use Rattle.index_forms.specs.Form.{Atom, read, Form, form, Terms, no_terms, term, Forms, no_forms, and_form, atom_order}
-use Rattle.index_forms.specs.Sums.{total, value, values, kept, insert, add_scaled, plus_scaled, minus, differences}
+use Rattle.index_forms.specs.Form.{Atom, Form, form, Terms, no_terms, term, atom_order}
+use Rattle.index_forms.specs.Sums.{total, value, kept, insert, add_scaled, plus_scaled, minus}
 use Rattle.index_law.proofs.AtomOrder.{atom-same}
 use Rattle.index_forms.proofs.Ints.{sum-times, times-sum, times-assoc}
 

@@ -4,3 +4,7 @@ pub mod Respect
 pub mod Steps
 pub mod Iterations
 pub mod Variables
+pub mod Starts
+pub mod Valuations
+pub mod Fixed
+pub mod Paths

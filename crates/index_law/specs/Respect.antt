@@ -1,5 +1,5 @@
 -- Valuations that have the values of two accesses, in different iterations of a run without a conflict.
-use Rattle.std.specs.Prelude.{◌≡◌, ◌≢◌, ◌⊎◌, ℕ, ℤ, List, Option, Some, Ok}
+use Rattle.std.specs.Prelude.{◌≡◌, ◌≢◌, ◌⊎◌, ℕ, ℤ, List, Some, Ok}
 use Rattle.fl_types.specs.declared.access.AccessKind.TheVariants.{Write}
 use Rattle.fl_types.specs.Sharing.{ParallelLoop}
 use Rattle.meaning.specs.declared.value.Value.{Value}

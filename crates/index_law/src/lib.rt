@@ -4,6 +4,7 @@
 mod laws;
 
 pub use laws::{
-    facts_are_respected, facts_hold, forms_are_subscripts, invariants_hold, known_stays_true,
-    sums_are_exact, variables_hold,
+    facts_are_respected, facts_hold, fixed_arrays_stay, forms_are_subscripts, invariants_hold,
+    known_at_start_is_true, known_stays_true, paths_are_followed, sums_are_exact, valuations_stand,
+    variables_hold,
 };
