@@ -8,7 +8,7 @@ use crate::name::has_name;
 use fl_ast::{Arm, Decl, Directive, Kind, Name, Stmt};
 use fl_types::Sharing;
 
-fn is_ring_kind(kind: Kind) -> bool
+pub fn is_ring_kind(kind: Kind) -> bool
     ensures { result ≡ is_ring_kind_lem kind }
 {
     match kind {

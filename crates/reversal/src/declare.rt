@@ -22,7 +22,8 @@ pub fn arguments(alloc: Global, active: &NameSet, args: &[Name]) -> Result<Items
     Ok(names)
 }
 
-fn push_with_adjoint(
+/// Adds a name, and its adjoint where it is active.
+pub fn push_with_adjoint(
     alloc: Global,
     active: &NameSet,
     arg: &Name,

@@ -87,7 +87,8 @@ pub fn taken(alloc: Global, line: u32, target: &Place) -> Result<AStmt, Memory>
     })
 }
 
-fn cleared(alloc: Global, line: u32, target: &Place) -> Result<AStmt, Memory>
+/// The adjoint of a place set to zero.
+pub fn cleared(alloc: Global, line: u32, target: &Place) -> Result<AStmt, Memory>
     ensures { IfOk result (λ s. astmt_tree s ≡ rules.cleared line (place_tree target.now)) }
 {
     Ok(AStmt::Assign {
