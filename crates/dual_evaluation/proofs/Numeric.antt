@@ -15,7 +15,7 @@ use Rattle.fl_ast.specs.declared.kind.Fun.TheVariants.{Max, Min, Abs, Mod}
 use Rattle.meaning.specs.declared.value.Dual.{Dual}
 use Rattle.meaning.specs.declared.value.Value.{Value}
 use Rattle.meaning.specs.declared.value.Value.TheVariants.{Index, Ring}
-use Rattle.meaning.specs.Values.{as_dual, rank, of_index, literal_value, index_result, ring_result, binary_result, negation_result, power_result, absolute_result, remainder, larger_result, smaller_result, call_result}
+use Rattle.meaning.specs.Values.{as_dual, rank, of_index, literal_value, index_result, ring_result, binary_result, negation_result, power_result, absolute_result, remainder, call_result}
 use Rattle.dual_evaluation.specs.Answers.{is_numeric_result}
 
 of_indexes : (r : Result ℤ IndexTrap) → is_numeric_result (of_index r) ≡ true

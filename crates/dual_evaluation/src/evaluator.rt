@@ -97,12 +97,7 @@ fn negation(
 }
 
 #[tactic(auto, using(crate::proofs::Numeric::numeric))]
-fn operation(
-    table: &SlotTable,
-    op: BinOp,
-    first: Value,
-    second: Value,
-) -> Result<Value, EvalStop>
+fn operation(table: &SlotTable, op: BinOp, first: Value, second: Value) -> Result<Value, EvalStop>
     ensures { Answers table.now.0 result (binary_result op first second) }
 {
     found(table, binary(op, first, second))
