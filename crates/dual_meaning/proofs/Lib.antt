@@ -1,4 +1,3 @@
-pub mod Stopped
 pub mod Turning
 pub mod Names
 pub mod Unseen

@@ -88,7 +88,6 @@ fn stop_at(alloc: Global, table: &SlotTable, line: u32, stop: EvalStop) -> RunSt
     }
 }
 
-#[tactic(auto, using(crate::proofs::Stopped::answer_at))]
 fn test_at(
     alloc: Global,
     table: &SlotTable,
@@ -105,7 +104,6 @@ fn test_at(
     }
 }
 
-#[tactic(auto, using(crate::proofs::Stopped::answer_at))]
 fn turns_at(
     alloc: Global,
     table: &SlotTable,
@@ -125,7 +123,6 @@ fn turns_at(
     }
 }
 
-#[tactic(auto, using(crate::proofs::Stopped::set_at_line))]
 fn assign_at(
     alloc: Global,
     table: &SlotTable,
