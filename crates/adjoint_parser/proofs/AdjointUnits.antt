@@ -1,10 +1,10 @@
 -- The units of adjoints are read exactly.
-use Rattle.std.proofs.Common.{◌≡◌, ℕ, Bool, true, false, cond, List, refl}
+use Rattle.std.proofs.Common.{Bool, true, false, cond, List, refl}
 use Rattle.fl_ast.specs.declared.decl.Decl.{Decl}
 use Rattle.parsing.specs.declared.symbol.Symbol.{Symbol}
 use Rattle.parsing.specs.declared.symbol.Symbol.TheVariants as s
 use Rattle.parsing.specs.Freed.{Freed}
-use Rattle.parsing.specs.Terminal.{same, on, is}
+use Rattle.parsing.specs.Terminal.{same, on}
 use Rattle.parsing.specs.Grammar.{gives, ◌>>=◌ as ◌⨟◌}
 use Rattle.fl_statements.specs.Limits.{Limits}
 use Rattle.fl_parser.specs.declared.unit.UnitHead.{UnitHead}

@@ -1,6 +1,6 @@
 //! Whole texts.
 
-ghost use Rattle.std.specs.Prelude.{◌≡◌, ◌≢◌, ◌+◌, ◌<◌, ◌^◌, length, map, Ok, IfOk, IfErr};
+ghost use Rattle.std.specs.Prelude.{◌≢◌, ◌+◌, ◌<◌, ◌^◌, length, map, Ok, IfOk, IfErr};
 ghost use Rattle.fl_ast.specs.declared.adjoint.AdjointText.{AdjointText};
 ghost use Rattle.fl_base.specs.Finds.{Finds};
 ghost use Rattle.tokens.specs.Lexeme.{lexeme};

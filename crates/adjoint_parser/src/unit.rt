@@ -1,6 +1,6 @@
 //! The unit of an adjoint.
 
-ghost use Rattle.std.specs.Prelude.{◌≡◌, ◌<◌, ◌^◌, IfOk};
+ghost use Rattle.std.specs.Prelude.{◌<◌, ◌^◌};
 ghost use Rattle.parsing.specs.Code.{Reads};
 ghost use Rattle.adjoint_statements.specs.Rooms.{limits_of};
 ghost use Rattle.fl_parser.specs.UnitReading as plain;

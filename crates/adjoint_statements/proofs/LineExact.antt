@@ -1,41 +1,33 @@
 -- Assignments and the calls of the tape are read exactly.
-use Rattle.std.proofs.Common.{◌≡◌, ℕ, ◌-◌, Bool, true, false, ◌||◌, [], ◌∷◌, length, refl, sym, ap, subst, inl, inr, nat_lt}
+use Rattle.std.proofs.Common.{ℕ, ◌-◌, Bool, false, [], ◌∷◌, refl}
 use Rattle.parsing.specs.declared.symbol.Symbol.{Symbol}
 use Rattle.parsing.specs.declared.symbol.Symbol.TheVariants as s
 use Rattle.parsing.specs.declared.cursor.Word.{Word}
 use Rattle.parsing.specs.declared.fault.Cause.TheVariants.{Deep}
 use Rattle.parsing.specs.Freed.{Freed, Frees}
 use Rattle.parsing.specs.Limit.{less as fewer}
-use Rattle.parsing.specs.Terminal.{same, on, is, marked, names}
-use Rattle.parsing.specs.Reading.{◌>>=◌ as ◌▷◌, Lexemes, Parser, Outcome, and_then, sees, choose, within, pure}
+use Rattle.parsing.specs.Terminal.{same, on, is, names}
 use Rattle.parsing.specs.Grammar.{◌or◌}
-use Rattle.fl_expressions.specs.declared.tree.Measured.{Measured}
-use Rattle.fl_expressions.specs.ExprGrammar as ge
-use Rattle.fl_expressions.specs.ExprReading as pe
-use Rattle.adjoint_expressions.specs.declared.tree.AMeasured.{AMeasured}
 use Rattle.adjoint_expressions.specs.AdjointGrammar as ga
 use Rattle.adjoint_expressions.specs.AdjointReading as pa
 use Rattle.fl_conditions.specs.declared.tree.Judged.{Judged}
-use Rattle.fl_statements.specs.declared.block.Target.{Target}
 use Rattle.fl_statements.specs.Limits.{Limits}
 use Rattle.fl_statements.specs.Trees.{scalar_target}
 use Rattle.fl_statements.specs.Terminals.{plain_names, begins_rest}
 use Rattle.fl_statements.specs.StmtGrammar as gs
-use Rattle.fl_statements.specs.StmtReading as ps
 use Rattle.adjoint_statements.specs.declared.block.Block.{Block}
 use Rattle.adjoint_statements.specs.Rooms.{narrower}
 use Rattle.adjoint_statements.specs.Trees.{block_from, assigned, pushed, popped, opened, closed, first_branch, branched}
 use Rattle.adjoint_statements.specs.AdjointStmtGrammar as g
 use Rattle.adjoint_statements.specs.AdjointStmtReading as p
-use Rattle.parsing.proofs.Outcomes.{never, differ, which, choose_true, choose_false, shrinks_pure, shrinks_seq, Shrinks, Bites, bites_seq, Past, past_on}
-use Rattle.parsing.proofs.Exact.{Exact, frees_less, Begins, pure_exact, seq, shrinks_token}
+use Rattle.parsing.proofs.Outcomes.{never}
+use Rattle.parsing.proofs.Exact.{Exact, frees_less, Begins, pure_exact, seq}
 use Rattle.parsing.proofs.Rules.{either, begins_seq, begins_or, begins_where, meets_never, mapped, opens_or, opens_begins, opens_gives, begins_opens}
-use Rattle.parsing.proofs.OnSymbols.{among, meets, begins_in, begins_mark, begins_name, mark_exact, name_exact, mark_then, bites_mark, bites_name}
+use Rattle.parsing.proofs.OnSymbols.{among, meets, begins_in, begins_mark, begins_name, mark_exact, name_exact, mark_then}
 use Rattle.fl_expressions.proofs.Exprs.{binds, expr_exact}
 use Rattle.adjoint_expressions.proofs.AdjointExprs.{adjoint_expr_exact}
-use Rattle.fl_statements.proofs.Guards.{bites_within, shrinks_choose}
-use Rattle.fl_statements.proofs.AssignExact.{plain_name_exact, begins_plain_name, bites_plain_name, indexed_target_begins, indexed_target_bites, after_target_exact, equals_only}
-use Rattle.adjoint_statements.proofs.Widths.{Widths, one_fewer, some_in}
+use Rattle.fl_statements.proofs.AssignExact.{plain_name_exact, begins_plain_name, indexed_target_begins, after_target_exact}
+use Rattle.adjoint_statements.proofs.Widths.{Widths, one_fewer}
 
 module _ (l : Freed) (limits wide : Limits) (V : Widths l limits wide) where
   abbrev F : Frees l Deep (fewer limits.depth) (fewer wide.depth)
@@ -55,10 +47,6 @@ module _ (l : Freed) (limits wide : Limits) (V : Widths l limits wide) where
   unfolding g.right_side
   right_side_begins = begins_seq _ (begins_mark s.Equals)
 
-  right_side_bites : Bites (p.right_side wide) (is s.Equals)
-  unfolding p.right_side
-  right_side_bites = bites_mark s.Equals _ (λ _. shrinks_seq _ _ (value_exact.shrinks) (λ e. shrinks_seq _ _ (shrinks_token _) (λ _. shrinks_pure e)))
-
   assign_to_exact : (atomic : Bool) (c : Block) (x : Word) → Exact l (g.assign_to limits atomic c x) never (p.assign_to limits atomic c x) (p.assign_to wide atomic c x)
   unfolding g.assign_to p.assign_to
   assign_to_exact atomic c x = seq (after_target_exact l limits wide V.outer x) (λ t. mapped right_side_exact (assigned atomic c t)) (λ t. meets (same s.Equals) (same s.Open) never _ (begins_seq _ right_side_begins) refl refl)
@@ -71,30 +59,12 @@ module _ (l : Freed) (limits wide : Limits) (V : Widths l limits wide) where
   unfolding g.assign
   assign_begins atomic c = begins_seq _ begins_name
 
-  pub assign_bites : (atomic : Bool) (c : Block) → Bites (p.assign wide atomic c) (on names)
-  unfolding p.assign
-  assign_bites atomic c = bites_name _ (λ x. (assign_to_exact atomic c x).shrinks)
-
   -- a target's name is followed by these
   rest_begins : (atomic : Bool) (c : Block) (x : Word) → Begins (g.assign_to limits atomic c x) (on begins_rest)
   unfolding g.assign_to gs.after_target
   rest_begins atomic c x = begins_opens _ _ (on begins_rest)
       (opens_or _ _ (on begins_rest) (opens_begins _ (on begins_rest) (begins_where _ _ _ (begins_in (same s.Open) begins_rest _ (indexed_target_begins l limits wide V.outer x) refl refl))) (opens_gives (scalar_target x) (on begins_rest)))
       (λ t. begins_in (same s.Equals) begins_rest _ (begins_seq _ right_side_begins) refl refl)
-
-  rest_bites : (atomic : Bool) (c : Block) (x : Word) → Bites (p.assign_to wide atomic c x) (on begins_rest)
-  unfolding p.assign_to ps.after_target
-  rest_bites atomic c x ts h =
-      let some_wide = some_in V.outer in
-      let target = choose (is s.Open) (within (nat_lt 0 wide.brackets) Deep (ps.indexed_target wide x)) (pure (scalar_target x)) in
-      let behind : Target → Parser Block = λ t. p.right_side wide ▷ (λ e. pure (assigned atomic c t e)) in
-      elim (which (sees (is s.Open) ts)) [
-        | inl is_so ↦ past_on (target ts) behind (length ts) (λ t. shrinks_seq _ _ (right_side_exact.shrinks) (λ e. shrinks_pure (assigned atomic c t e)))
-            (subst (λ (v : Outcome Target). Past v (length ts)) (sym (choose_true (is s.Open) (within (nat_lt 0 wide.brackets) Deep (ps.indexed_target wide x)) (pure (scalar_target x)) ts is_so))
-            (bites_within (is s.Open) (nat_lt 0 wide.brackets) Deep (ps.indexed_target wide x) some_wide (indexed_target_bites l limits wide V.outer some_wide x) ts is_so))
-        | inr isnt ↦ subst (λ (v : Outcome Target). Past (and_then v behind) (length ts)) (sym (choose_false (is s.Open) (within (nat_lt 0 wide.brackets) Deep (ps.indexed_target wide x)) (pure (scalar_target x)) ts isnt))
-            (bites_seq (p.right_side wide) (λ e. pure (assigned atomic c (scalar_target x) e)) (is s.Equals) right_side_bites (λ e. shrinks_pure (assigned atomic c (scalar_target x) e)) ts (equals_only l limits wide V.outer ts h isnt))
-      ]
 
   -- ---- calls of the tape
 
@@ -184,10 +154,6 @@ module _ (l : Freed) (limits wide : Limits) (V : Widths l limits wide) where
   pub call_begins : (c : Block) → Begins (g.call limits c) (is s.Call)
   unfolding g.call
   call_begins c = begins_seq _ (begins_mark s.Call)
-
-  pub call_bites : (c : Block) → Bites (p.call wide c) (is s.Call)
-  unfolding p.call
-  call_bites c = bites_mark s.Call _ (λ line. (called_exact c line).shrinks)
 
   -- ---- one-line Ifs
 

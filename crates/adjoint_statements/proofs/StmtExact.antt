@@ -1,5 +1,5 @@
 -- An adjoint's statements are read exactly.
-use Rattle.std.proofs.Common.{◌≡◌, ℕ, zero, suc, ◌-◌, ◌+◌, ◌≤◌, Bool, true, false, not, ◌||◌, cond, [], ◌∷◌, length, Some, None, Ok, refl, sym, ap, ◌∙◌, ◌⊎◌, inl, inr, nat_lt, arith, append_assoc, ◌++◌}
+use Rattle.std.proofs.Common.{◌≡◌, ℕ, zero, suc, ◌+◌, ◌≤◌, Bool, true, false, not, ◌||◌, cond, [], ◌∷◌, length, Some, None, Ok, refl, sym, ap, ◌∙◌, ◌⊎◌, inl, inr, nat_lt, arith, append_assoc, ◌++◌}
 use Rattle.tokens.specs.Lexeme.{Lexeme}
 use Rattle.parsing.specs.declared.symbol.Symbol.{Symbol}
 use Rattle.parsing.specs.declared.symbol.Symbol.TheVariants as s
@@ -28,12 +28,12 @@ use Rattle.adjoint_statements.specs.AdjointStmtReading.{begins_stmt}
 use Rattle.parsing.proofs.Outcomes.{never, differ, which, ok_err, choose_true, choose_false, shrinks_pure, shrinks_seq, Bites, Shrinks, bites_seq}
 use Rattle.parsing.proofs.Exact.{Exact, Room, always_room, Begins, Meets, pure_exact, seq, either_within}
 use Rattle.parsing.proofs.Rules.{Opens, anywhere, either, restate, begins_seq, begins_or, begins_where, meets_never, gives_meets, meets_or, mapped}
-use Rattle.parsing.proofs.OnSymbols.{less, among, meets, begins_in, begins_mark, mark_then, bites_mark}
-use Rattle.omp_clauses.proofs.LineExact.{atomic_exact, atomic_begins, atomic_bites as atomic_line_bites, end_parallel_exact, end_atomic_exact, parallel_exact, parallel_begins, parallel_bites}
+use Rattle.parsing.proofs.OnSymbols.{less, among, meets, begins_in, begins_mark, mark_then}
+use Rattle.omp_clauses.proofs.LineExact.{atomic_exact, atomic_begins, end_parallel_exact, end_atomic_exact, parallel_exact, parallel_begins, parallel_bites}
 use Rattle.fl_statements.proofs.AssignExact.{end_do_exact, ends_do, end_do_begins, loop_line_exact, loop_line_begins, loop_line_bites}
-use Rattle.fl_statements.proofs.Guards.{fixed_room, guarded, bites_within, alike, shrinks_choose, shrinks_within, takes_some, list_exact as steps_exact}
+use Rattle.fl_statements.proofs.Guards.{fixed_room, guarded, alike, takes_some, list_exact as steps_exact}
 use Rattle.adjoint_statements.proofs.Widths.{Widths, some_in}
-use Rattle.adjoint_statements.proofs.LineExact.{assign_exact, assign_begins, assign_bites, call_exact, call_begins, call_bites}
+use Rattle.adjoint_statements.proofs.LineExact.{assign_exact, assign_begins, call_exact, call_begins}
 use Rattle.adjoint_statements.proofs.IfExact.{if_exact, if_begins, if_bites}
 
 -- What stands behind a statement stands behind each of those that may begin so.
@@ -190,10 +190,6 @@ module _ (l : Freed) (limits wide : Limits) (V : Widths l limits wide) where
     directive_begins : (c : Block) → Begins (g.directive limits may ig inside c) (is s.Sentinel)
     unfolding g.directive
     directive_begins c = begins_seq _ (begins_mark s.Sentinel)
-
-    directive_bites : (c : Block) → Bites (p.directive wide may2 ip2 inside c) (is s.Sentinel)
-    unfolding p.directive
-    directive_bites c = bites_mark s.Sentinel _ (λ line. (after_sentinel_exact c line).shrinks)
 
     -- ---- lists of statements
 

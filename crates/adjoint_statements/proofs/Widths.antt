@@ -1,5 +1,5 @@
 -- Limits and wider ones, behind one more bracket too.
-use Rattle.std.proofs.Common.{◌≡◌, ℕ, ◌-◌, ◌<◌, true, nat_lt, refl, arith}
+use Rattle.std.proofs.Common.{◌≡◌, ℕ, ◌-◌, ◌<◌, true, nat_lt, arith}
 use Rattle.std.proofs.lemmas.Bool.Decides.{nat_tests}
 use Rattle.parsing.specs.Freed.{Freed}
 use Rattle.parsing.specs.Limit.{less as fewer}

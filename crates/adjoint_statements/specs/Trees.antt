@@ -1,5 +1,5 @@
 -- The trees that are read.
-use Rattle.std.specs.Prelude.{ℕ, ◌+◌, Bool, true, false, nat_lt, if◌then◌else◌, List, [], ◌∷◌, ◌++◌, Option, Some, None}
+use Rattle.std.specs.Prelude.{ℕ, ◌+◌, Bool, true, false, nat_lt, if◌then◌else◌, List, [], ◌∷◌, ◌++◌, Option}
 use Rattle.fl_ast.specs.declared.directive.Directive.{Directive}
 use Rattle.fl_ast.specs.declared.expr.Cond.{Cond}
 use Rattle.fl_ast.specs.declared.adjoint.AArm.{AArm}
@@ -20,7 +20,7 @@ use Rattle.adjoint_statements.specs.declared.branch.Branch.{Branch}
 abbrev pub block_from : ℕ → Block
 block_from loops = record { stmts = []; loops = loops; awaited = Nothing }
 
--- the number of the loop behind so many; the greatest has 32 bits, and no text has so many loops
+-- the number of the loop behind so many; a number has 32 bits, and behind the greatest it stays
 abbrev pub next_loop : ℕ → ℕ
 next_loop loops = if nat_lt loops 4294967295 then loops + 1 else loops
 

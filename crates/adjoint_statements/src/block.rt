@@ -37,7 +37,8 @@ pub fn block_from(alloc: Global, loops: u32) -> Block
     }
 }
 
-/// The number of the loop behind so many. A text has fewer bytes than the greatest number.
+/// The number of the loop behind so many. It stays at the greatest, which a text of fewer than 2^32 bytes should never reach; no
+/// contract says so.
 pub fn next_loop(loops: u32) -> u32
     ensures { result ≡ trees.next_loop loops }
 {

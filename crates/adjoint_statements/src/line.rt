@@ -1,6 +1,6 @@
 //! Lines that an adjoint's text shares with programs.
 
-ghost use Rattle.std.specs.Prelude.{◌≡◌, ◌<◌, ◌^◌};
+ghost use Rattle.std.specs.Prelude.{◌<◌, ◌^◌};
 ghost use Rattle.parsing.specs.Code.{Reads};
 ghost use Rattle.fl_statements.specs.StmtReading as plain;
 ghost use Rattle.adjoint_statements.specs.Rooms.{limits_of};

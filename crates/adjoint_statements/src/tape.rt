@@ -1,6 +1,6 @@
 //! Calls of the tape.
 
-ghost use Rattle.std.specs.Prelude.{◌≡◌, ◌<◌, ◌^◌};
+ghost use Rattle.std.specs.Prelude.{◌<◌, ◌^◌};
 ghost use Rattle.parsing.specs.Code.{Reads};
 ghost use Rattle.adjoint_statements.specs.Rooms.{limits_of};
 ghost use Rattle.adjoint_statements.specs.AdjointStmtReading as spec;

@@ -9,5 +9,5 @@ returns t c = rw level_of c.block.ensures
 pub block-requires-clause-inner : goal.block-requires-clause-inner
 block-requires-clause-inner t c = record {
   callable = λ alloc old inside d room. search rules;
-  reads = λ alloc old new inside d r room post. rw (nested_of (limits_of c.args.room) c.args.blocks inside d old.now room) post.1;
+  reads = λ alloc old new inside d r room post. rw (nested_of (limits_of c.args.room) c.args.blocks inside d old.now room) post.3;
 }
