@@ -1,0 +1,3 @@
+pub mod DeclMarks
+pub mod ReadDecls
+pub mod ReadDims
