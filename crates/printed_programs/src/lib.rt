@@ -1,0 +1,6 @@
+//! Printed programs are read back.
+#![tactic(auto)]
+
+mod program;
+
+pub use program::printed_programs_are_read;
