@@ -7,3 +7,4 @@ pub mod Sizes
 pub mod Measures
 pub mod Words
 pub mod Readable
+pub mod ReadableAdjoint

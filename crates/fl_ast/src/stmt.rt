@@ -53,12 +53,12 @@ pub struct Program {
 
 /// What stands before a loop's body.
 #[derive(Drop)]
-pub(crate) struct Head {
-    pub(crate) directive: Option<Directive>,
-    pub(crate) var: Name,
-    pub(crate) first: Expr,
-    pub(crate) last: Expr,
-    pub(crate) step: Option<Expr>,
+struct Head {
+    directive: Option<Directive>,
+    var: Name,
+    first: Expr,
+    last: Expr,
+    step: Option<Expr>,
 }
 
 fn clone_step(alloc: Global, step: &Option<Expr>) -> Result<Option<Expr>, Memory>
@@ -82,7 +82,7 @@ fn clone_directive(
     }
 }
 
-pub(crate) fn clone_head(
+fn clone_head(
     alloc: Global,
     directive: &Option<Directive>,
     var: &Name,

@@ -16,7 +16,7 @@ use Rattle.fl_printer.specs.Lexemes.{IsLexedAs}
 use Rattle.fl_printer.proofs.LexemeLaws.{rows_lexed}
 use Rattle.fl_printer.specs.Text.{adjoint_text}
 use Rattle.fl_printer.specs.Small.{are_small}
-use Rattle.fl_printer.specs.ReadableAdjoint.{number_of_adjoints, is_readable_adjoint, are_readable_adjoints, has_parallel_adjoints, has_adjoint_arm, is_readable_adjoint_statement, are_readable_adjoint_statements, are_readable_adjoint_arms, adjoint_block_depth, block_depth_of_adjoints, block_depth_of_adjoint_arms, IsReadableAdjoint}
+use Rattle.fl_ast.specs.ReadableAdjoint.{number_of_adjoints, is_readable_adjoint, are_readable_adjoints, has_parallel_adjoints, has_adjoint_arm, is_readable_adjoint_statement, are_readable_adjoint_statements, are_readable_adjoint_arms, adjoint_block_depth, block_depth_of_adjoints, block_depth_of_adjoint_arms, IsReadableAdjoint}
 use Rattle.fl_printer.proofs.Tokens.{Class, Wordy, Pairing, Calm, pair_token}
 use Rattle.fl_printer.proofs.Flow.{Runs, closed, ready, any, join, stop, step_as, calm, name_step, number_step, plain_step, minus_token, bracket, opened, ended, operator_step, function_name, le_is, flows, place_flows, condition_flows}
 use Rattle.fl_printer.proofs.Lines.{IsRow, AreRows, rows_append}

@@ -1,6 +1,5 @@
 pub mod Layout
 pub mod Lexemes
-pub mod ReadableAdjoint
 pub mod Rows
 pub mod Small
 pub mod Text

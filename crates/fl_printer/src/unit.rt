@@ -5,7 +5,7 @@ ghost use Rattle.fl_ast.specs.Tree.{program_tree, stmt_trees};
 ghost use Rattle.fl_ast.specs.AdjointTree.{adjoint_tree, astmt_trees};
 ghost use Rattle.fl_ast.specs.Readable.{IsReadable};
 ghost use Rattle.fl_printer.specs.Lexemes.{IsLexedAs};
-ghost use Rattle.fl_printer.specs.ReadableAdjoint.{IsReadableAdjoint};
+ghost use Rattle.fl_ast.specs.ReadableAdjoint.{IsReadableAdjoint};
 ghost use Rattle.fl_printer.specs.Small.{are_small};
 ghost use Rattle.fl_printer.specs.Rows as spec;
 ghost use Rattle.fl_printer.specs.Layout.{rows_text};

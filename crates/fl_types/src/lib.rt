@@ -4,6 +4,7 @@
 mod access;
 mod choice;
 mod increment;
+mod nests;
 mod sharing;
 mod supported;
 mod surface;
@@ -12,5 +13,6 @@ mod typed;
 pub use access::{Access, AccessKind, PathStep};
 pub use choice::{Choice, Choices, Chosen, NameSet};
 pub use increment::{IncrementForm, increment_form};
+pub use nests::{is_nest, iteration_body};
 pub use sharing::Sharing;
 pub use typed::{TypeError, Typed};

@@ -1,4 +1,4 @@
-ghost use Rattle.std.specs.Prelude.{◌≡◌, ◌+◌, ◌*◌, ◌<◌, ◌≤◌, ◌^◌, true, length, slice_get, List, [], All, IfSome, IfOk, Some, None, option_map, take};
+ghost use Rattle.std.specs.Prelude.{◌≡◌, ◌+◌, ◌*◌, ◌<◌, ◌≤◌, ◌^◌, true, length, slice_get, List, [], ◌∷◌, All, IfSome, IfOk, Some, None, option_map, take};
 ghost use Rattle.store_core.specs.Keys.{step_of, size_of, offset_of, keys_of, slot_of, place_in_slot, place_of, laid, scalar, HasEachOnce, with_scalars, LaysWithin};
 ghost use Rattle.store_core.specs.Bounds.{IsLow};
 ghost use Rattle.store_core.specs.Places.{are_scalars};
@@ -329,8 +329,18 @@ fn slot_among(shapes: &[Shape], name: &Name) -> Option<usize>
     None
 }
 
-/// The place of subscripts in an array whose first place is `first`.
-fn place_from(first: u32, next: u32, axes: &[Axis], subscripts: &[i64]) -> Option<u32>
+/// The place of a subscript on an axis of an array whose first place is `first`.
+fn place_on_axis(first: u32, next: u32, axis: Axis, subscript: i64) -> Option<u32>
+    requires long { next ≡ first + size_of (axis ∷ []) }
+    requires small { next ≤ 2 ^ 21 }
+    ensures { result ≡ option_map (λ k. first + k) (offset_of (axis ∷ []) (subscript ∷ [])) }
+{
+    let step = axis.step(subscript)?;
+    Some(first + step)
+}
+
+/// The place of subscripts in an array of any rank whose first place is `first`.
+fn place_by_offset(first: u32, next: u32, axes: &[Axis], subscripts: &[i64]) -> Option<u32>
     requires long { next ≡ first + size_of axes.now }
     requires small { next ≤ 2 ^ 21 }
     ensures { result ≡ option_map (λ k. first + k) (offset_of axes.now subscripts.now) }
@@ -341,5 +351,18 @@ fn place_from(first: u32, next: u32, axes: &[Axis], subscripts: &[i64]) -> Optio
     match offset(axes, subscripts) {
         Some(offset) => Some(first + offset),
         None => None,
+    }
+}
+
+/// The place of subscripts in an array whose first place is `first`. A scalar and one subscript have ways of their own.
+fn place_from(first: u32, next: u32, axes: &[Axis], subscripts: &[i64]) -> Option<u32>
+    requires long { next ≡ first + size_of axes.now }
+    requires small { next ≤ 2 ^ 21 }
+    ensures { result ≡ option_map (λ k. first + k) (offset_of axes.now subscripts.now) }
+{
+    match (axes, subscripts) {
+        ([], []) => Some(first),
+        ([axis], [only]) => place_on_axis(first, next, *axis, *only),
+        _ => place_by_offset(first, next, axes, subscripts),
     }
 }

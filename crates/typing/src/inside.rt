@@ -9,6 +9,7 @@ ghost use Rattle.typing.specs.Views.{names_in, around_of, optional_region};
 
 use crate::around::{Around, Region, Vars};
 use fl_ast::{Directive, Name, Stmt};
+use fl_types::is_nest;
 
 pub(crate) fn made_parallel<'t>(
     directive: &'t Option<Directive>,
@@ -41,34 +42,12 @@ pub(crate) fn at_bounds<'v, 't>(around: &Around<'v, 't>, line: u32) -> Around<'v
     Around { line, ..*around }
 }
 
-fn is_plain_loop(stmt: &Stmt) -> bool
-    ensures { result ≡ nests.is_plain_loop (stmt_tree stmt.now) }
-{
-    match stmt {
-        Stmt::Assign { .. } | Stmt::If { .. } => false,
-        Stmt::Do { directive, .. } => match directive {
-            None => true,
-            Some(_) => false,
-        },
-    }
-}
-
-#[tactic(auto, using(crate::proofs::Lists::many_alone))]
-fn is_one_loop(stmts: &[Stmt]) -> bool
-    ensures { result ≡ nests.is_one_loop (stmt_trees stmts.now) }
-{
-    match stmts {
-        [stmt] => is_plain_loop(stmt),
-        _ => false,
-    }
-}
-
 fn is_nested(parallel: &Option<Region<'_>>) -> bool
     ensures { result ≡ mentions.is_nested (optional_region parallel.now) }
 {
     match parallel {
         None => false,
-        Some(region) => region.directive.collapse == 2 && is_one_loop(region.body),
+        Some(region) => is_nest(region.directive, region.body),
     }
 }
 
