@@ -6,6 +6,7 @@ ghost use Rattle.fl_ast.specs.AdjointTree.{aexpr_tree, aexpr_trees, adjoint_get,
 ghost use Rattle.fl_ast.specs.declared.kind.Kind.TheVariants as kind;
 ghost use Rattle.adjoint_rules.specs.Expressions as rules;
 
+use crate::copy::copy;
 use fl_ast::{AExpr, BinOp, Cond, Expr, Kind, Place, RelOp};
 use fl_base::{Boxed, Items, Memory};
 use std::alloc::Global;
@@ -24,7 +25,7 @@ pub fn binary(
 pub fn copied(alloc: Global, amount: &AExpr) -> Result<Boxed<AExpr>, Memory>
     ensures { IfOk result (λ e. e ≡ amount.now) }
 {
-    Boxed::new(alloc, amount.clone(alloc)?)
+    Boxed::new(alloc, copy(alloc, amount)?)
 }
 
 pub fn get(alloc: Global, place: &Place) -> Result<Boxed<AExpr>, Memory>

@@ -3,6 +3,7 @@
 
 mod chain;
 mod class;
+mod copy;
 mod declare;
 mod expression;
 mod factor;
