@@ -1,61 +1,67 @@
 //! Directives from their texts.
 
+use crate::texts::push_bytes;
 use fl_ast::{Directive, ScheduleKind};
 use fl_base::{Items, Name};
 use fl_lexer::lex;
 use omp_clauses::{ClauseError, DirectiveLine, read_directive};
 use std::alloc::{AllocError, Global};
 use std::fmt::Write;
+use std::process::Abort;
 use std::test::Fail;
 
-fn write_bytes(out: &mut String, bytes: &[u8]) -> Result<(), Fail> {
-    for b in bytes {
-        out.push(char::from(*b))?;
-    }
-    Ok(())
-}
+type Shown = Result<(), AllocError>;
 
-fn show_names(out: &mut String, word: &str, names: &Items<Name>) -> Result<(), Fail> {
+fn show_names(out: &mut String, word: &str, names: &Items<Name>) -> Shown {
     if names.is_empty() {
         return Ok(());
     }
-    write!(out, " {word}")?;
+    out.push(' ')?;
+    out.push_str(word)?;
     for name in names.as_slice() {
-        write!(out, " ")?;
-        write_bytes(out, name.bytes())?;
+        out.push(' ')?;
+        push_bytes(out, name.bytes())?;
     }
     Ok(())
 }
 
 fn kind_word(kind: ScheduleKind) -> &'static str {
     match kind {
-        ScheduleKind::Static => "static",
-        ScheduleKind::Dynamic => "dynamic",
-        ScheduleKind::Guided => "guided",
-        ScheduleKind::Auto => "auto",
-        ScheduleKind::Runtime => "runtime",
+        ScheduleKind::Static => " static",
+        ScheduleKind::Dynamic => " dynamic",
+        ScheduleKind::Guided => " guided",
+        ScheduleKind::Auto => " auto",
+        ScheduleKind::Runtime => " runtime",
     }
 }
 
-fn show_numbers(out: &mut String, d: &Directive) -> Result<(), Fail> {
+fn show_schedule(out: &mut String, schedule: (ScheduleKind, Option<u32>)) -> Shown {
+    let (kind, size) = schedule;
+    out.push_str(kind_word(kind))?;
+    match size {
+        Some(n) => write!(out, " {n}"),
+        None => Ok(()),
+    }
+}
+
+fn show_collapse(out: &mut String, loops: u32) -> Shown {
+    if loops == 0 {
+        return Ok(());
+    }
+    write!(out, " collapse {loops}")
+}
+
+fn show_numbers(out: &mut String, d: &Directive) -> Shown {
     if d.none {
-        write!(out, " none")?;
+        out.push_str(" none")?;
     }
-    if let Some((kind, size)) = d.schedule {
-        let word = kind_word(kind);
-        write!(out, " {word}")?;
-        if let Some(n) = size {
-            write!(out, " {n}")?;
-        }
+    if let Some(schedule) = d.schedule {
+        show_schedule(out, schedule)?;
     }
-    if d.collapse != 0 {
-        let loops = d.collapse;
-        write!(out, " collapse {loops}")?;
-    }
-    Ok(())
+    show_collapse(out, d.collapse)
 }
 
-fn show_directive(out: &mut String, d: &Directive) -> Result<(), Fail> {
+fn show_directive(out: &mut String, d: &Directive) -> Shown {
     let line = d.line;
     write!(out, "loop {line}")?;
     show_names(out, "privates", &d.privates)?;
@@ -65,40 +71,47 @@ fn show_directive(out: &mut String, d: &Directive) -> Result<(), Fail> {
     show_numbers(out, d)
 }
 
-fn show_error(out: &mut String, e: &ClauseError) -> Result<(), Fail> {
+fn show_word(out: &mut String, cause: &str, line: u32, word: &Name) -> Shown {
+    write!(out, "{cause} {line} ")?;
+    push_bytes(out, word.bytes())
+}
+
+fn show_error(out: &mut String, e: &ClauseError) -> Shown {
     match e {
-        ClauseError::Unknown { line, word } => {
-            write!(out, "unknown {line} ")?;
-            write_bytes(out, word.bytes())
-        }
-        ClauseError::Twice { line, name } => {
-            write!(out, "twice {line} ")?;
-            write_bytes(out, name.bytes())
-        }
-        ClauseError::Form { line } => Ok(write!(out, "form {line}")?),
-        ClauseError::Memory => Ok(write!(out, "memory")?),
+        ClauseError::Unknown { line, word } => show_word(out, "unknown", *line, word),
+        ClauseError::Twice { line, name } => show_word(out, "twice", *line, name),
+        ClauseError::Form { line } => write!(out, "form {line}"),
+        ClauseError::Memory => out.push_str("memory"),
     }
 }
 
-fn show(out: &mut String, outcome: &Result<DirectiveLine, ClauseError>) -> Result<(), Fail> {
+fn show(out: &mut String, outcome: &Result<DirectiveLine, ClauseError>) -> Shown {
     match outcome {
         Ok(DirectiveLine::ParallelDo(d)) => show_directive(out, d),
-        Ok(DirectiveLine::EndParallelDo) => Ok(write!(out, "end loop")?),
-        Ok(DirectiveLine::Atomic) => Ok(write!(out, "atomic")?),
-        Ok(DirectiveLine::EndAtomic) => Ok(write!(out, "end atomic")?),
+        Ok(DirectiveLine::EndParallelDo) => out.push_str("end loop"),
+        Ok(DirectiveLine::Atomic) => out.push_str("atomic"),
+        Ok(DirectiveLine::EndAtomic) => out.push_str("end atomic"),
         Err(e) => show_error(out, e),
     }
 }
 
-/// What a text of one directive is read as.
-fn told(alloc: Global, text: &str) -> Result<String, Fail> {
-    let mut out = String::new(alloc);
+/// Shows what a text of one directive is read as.
+fn tell(out: &mut String, alloc: Global, text: &str) -> Shown {
     if text.len() > 2_000_000_000 {
-        return Ok(out);
+        return Ok(());
     }
-    let tokens = lex(alloc, text.as_bytes())?;
-    show(&mut out, &read_directive(alloc, text.as_bytes(), &tokens))?;
-    Ok(out)
+    match lex(alloc, text.as_bytes()) {
+        Ok(tokens) => show(out, &read_directive(alloc, text.as_bytes(), &tokens)),
+        Err(_) => out.push_str("no tokens"),
+    }
+}
+
+/// What a text of one directive is read as is what is wanted.
+fn expect_told<R: Abort>(rt: &R, alloc: Global, text: &str, wanted: &str) -> Shown {
+    let mut got = String::new(alloc);
+    tell(&mut got, alloc, text)?;
+    assert_eq!(rt; got.as_str(), wanted, "{text}");
+    Ok(())
 }
 
 /// Behind `!$omp parallel do `, with what each is read as.
@@ -198,12 +211,16 @@ static LINES: [(&str, &str); 20] = [
     ("!$omp parallel do private(a, &\n!$omp & b)\n", "form 2"),
 ];
 
+fn expect_clauses<R: Abort>(rt: &R, alloc: Global, clauses: &str, wanted: &str) -> Shown {
+    let mut text = String::new(alloc);
+    write!(&mut text, "!$omp parallel do {clauses}\n")?;
+    expect_told(rt, alloc, text.as_str(), wanted)
+}
+
 #[test]
 fn clauses_are_read(rt: HostRuntime) -> Result<(), Fail> {
     for (clauses, wanted) in &CLAUSES {
-        let text = format!(in rt.alloc(); "!$omp parallel do {clauses}\n")?;
-        let got = told(rt.alloc(), text.as_str())?;
-        assert_eq!(rt; got.as_str(), *wanted, "{clauses}");
+        expect_clauses(&rt, rt.alloc(), clauses, wanted)?;
     }
     Ok(())
 }
@@ -211,29 +228,24 @@ fn clauses_are_read(rt: HostRuntime) -> Result<(), Fail> {
 #[test]
 fn directives_are_read(rt: HostRuntime) -> Result<(), Fail> {
     for (text, wanted) in &LINES {
-        let got = told(rt.alloc(), text)?;
-        assert_eq!(rt; got.as_str(), *wanted, "{text}");
+        expect_told(&rt, rt.alloc(), text, wanted)?;
     }
     Ok(())
 }
 
 /// A directive that lists so many names, over as many lines.
-fn many_names(alloc: Global, count: u32, last: &str) -> Result<String, AllocError> {
-    let mut text = String::from_str(alloc, "!$omp parallel do private(x &\n")?;
+fn push_names(text: &mut String, count: u32, last: &str) -> Shown {
+    text.push_str("!$omp parallel do private(x &\n")?;
     for i in 0..count {
-        let line = format!(in alloc; "!$omp ,n{i}&\n")?;
-        text.push_str(line.as_str())?;
+        write!(text, "!$omp ,n{i}&\n")?;
     }
-    text.push_str("!$omp ,")?;
-    text.push_str(last)?;
-    text.push_str(")\n")?;
-    Ok(text)
+    write!(text, "!$omp ,{last})\n")
 }
 
 #[test]
 fn many_names_are_read(rt: HostRuntime) -> Result<(), Fail> {
-    let twice = many_names(rt.alloc(), 100_000, "n77")?;
-    let got = told(rt.alloc(), twice.as_str())?;
-    assert_eq!(rt; got.as_str(), "twice 100002 n77");
+    let mut text = String::new(rt.alloc());
+    push_names(&mut text, 100_000, "n77")?;
+    expect_told(&rt, rt.alloc(), text.as_str(), "twice 100002 n77")?;
     Ok(())
 }

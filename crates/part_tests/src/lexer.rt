@@ -1,69 +1,75 @@
+use crate::texts::push_times;
 use fl_lexer::{LexError, Token, TokenKind, lex};
 use std::alloc::{AllocError, Global};
 use std::fmt::Write;
+use std::process::Abort;
 use std::test::Fail;
 
+type Shown = Result<(), AllocError>;
+
+fn kind_letter(kind: TokenKind) -> char {
+    match kind {
+        TokenKind::Word => 'w',
+        TokenKind::Number { .. } => 'n',
+        TokenKind::Mark => 'm',
+        TokenKind::Dots => 'd',
+        TokenKind::Sentinel => 's',
+        TokenKind::LineEnd => 'e',
+    }
+}
+
+fn show_value(out: &mut String, kind: TokenKind) -> Shown {
+    match kind {
+        TokenKind::Number { value, suffix } => {
+            let suffix = suffix.unwrap_or(0);
+            write!(out, "={value}_{suffix}")
+        }
+        _ => Ok(()),
+    }
+}
+
 /// A letter of the kind, the place and the number of bytes, as `w1:1+3`, and of a number its value and suffix.
-fn show_token(out: &mut String, token: &Token) -> Result<(), Fail> {
-    let kind = match token.kind {
-        TokenKind::Word => "w",
-        TokenKind::Number { .. } => "n",
-        TokenKind::Mark => "m",
-        TokenKind::Dots => "d",
-        TokenKind::Sentinel => "s",
-        TokenKind::LineEnd => "e",
-    };
+fn show_token(out: &mut String, token: &Token) -> Shown {
+    let kind = kind_letter(token.kind);
     let (line, col) = (token.line, token.col);
     let len = token.end.saturating_sub(token.start);
     write!(out, " {kind}{line}:{col}+{len}")?;
-    if let TokenKind::Number { value, suffix } = token.kind {
-        let suffix = suffix.unwrap_or(0);
-        write!(out, "={value}_{suffix}")?;
+    show_value(out, token.kind)
+}
+
+fn show_tokens(out: &mut String, tokens: &[Token]) -> Shown {
+    for token in tokens {
+        show_token(out, token)?;
     }
     Ok(())
 }
 
-fn show(out: &mut String, outcome: &Result<Vec<Token>, LexError>) -> Result<(), Fail> {
+fn show(out: &mut String, outcome: &Result<Vec<Token>, LexError>) -> Shown {
     match outcome {
-        Ok(tokens) => {
-            for token in tokens {
-                show_token(out, token)?;
-            }
-        }
-        Err(LexError::BadByte { line, col }) => write!(out, " bad byte {line}:{col}")?,
-        Err(LexError::LongName { line }) => write!(out, " long name {line}")?,
-        Err(LexError::LongLine { line }) => write!(out, " long line {line}")?,
-        Err(LexError::OpenContinuation { line }) => write!(out, " open continuation {line}")?,
-        Err(LexError::WideLiteral { line }) => write!(out, " wide literal {line}")?,
-        Err(LexError::Memory) => write!(out, " memory")?,
+        Ok(tokens) => show_tokens(out, tokens),
+        Err(LexError::BadByte { line, col }) => write!(out, " bad byte {line}:{col}"),
+        Err(LexError::LongName { line }) => write!(out, " long name {line}"),
+        Err(LexError::LongLine { line }) => write!(out, " long line {line}"),
+        Err(LexError::OpenContinuation { line }) => write!(out, " open continuation {line}"),
+        Err(LexError::WideLiteral { line }) => write!(out, " wide literal {line}"),
+        Err(LexError::Memory) => out.push_str(" memory"),
     }
-    Ok(())
 }
 
-/// `front`, then `middle` so many times, then `back`.
-fn repeated(
-    alloc: Global,
-    front: &str,
-    middle: &str,
-    times: usize,
-    back: &str,
-) -> Result<String, AllocError> {
-    let mut text = String::from_str(alloc, front)?;
-    for _ in 0..times {
-        text.push_str(middle)?;
-    }
-    text.push_str(back)?;
-    Ok(text)
-}
-
-/// What a text is read as.
-fn told(alloc: Global, text: &[u8]) -> Result<String, Fail> {
-    let mut out = String::new(alloc);
+/// Shows what a text is read as.
+fn tell(out: &mut String, alloc: Global, text: &[u8]) -> Shown {
     if text.len() > 2_000_000_000 {
-        return Ok(out);
+        return Ok(());
     }
-    show(&mut out, &lex(alloc, text))?;
-    Ok(out)
+    show(out, &lex(alloc, text))
+}
+
+/// What a text is read as is what is wanted.
+fn expect_told<R: Abort>(rt: &R, alloc: Global, text: &[u8], wanted: &str) -> Shown {
+    let mut got = String::new(alloc);
+    tell(&mut got, alloc, text)?;
+    assert_eq!(rt; got.as_str(), wanted, "{text:?}");
+    Ok(())
 }
 
 static LINES: [(&str, &str); 44] = [
@@ -169,7 +175,15 @@ static TOKENS: [(&str, &str); 21] = [
 ];
 
 /// A front, a middle so many times, and a back, with what they are read as.
-static LIMITS: [(&str, &str, usize, &str, &str); 22] = [
+type Limit = (
+    &'static str,
+    &'static str,
+    usize,
+    &'static str,
+    &'static str,
+);
+
+static LIMITS: [Limit; 22] = [
     // 1,024 bytes, and one more, of each kind of line.
     ("!", "x", 1023, "", ""),
     ("!", "x", 1023, "\r\n", ""),
@@ -200,8 +214,7 @@ static LIMITS: [(&str, &str, usize, &str, &str); 22] = [
 #[test]
 fn lines_are_read(rt: HostRuntime) -> Result<(), Fail> {
     for (text, wanted) in &LINES {
-        let got = told(rt.alloc(), text.as_bytes())?;
-        assert_eq!(rt; got.as_str(), *wanted, "{text}");
+        expect_told(&rt, rt.alloc(), text.as_bytes(), wanted)?;
     }
     Ok(())
 }
@@ -209,25 +222,34 @@ fn lines_are_read(rt: HostRuntime) -> Result<(), Fail> {
 #[test]
 fn tokens_are_read(rt: HostRuntime) -> Result<(), Fail> {
     for (text, wanted) in &TOKENS {
-        let got = told(rt.alloc(), text.as_bytes())?;
-        assert_eq!(rt; got.as_str(), *wanted, "{text}");
+        expect_told(&rt, rt.alloc(), text.as_bytes(), wanted)?;
     }
     Ok(())
 }
 
+fn push_limit(text: &mut String, row: &Limit) -> Shown {
+    let (front, middle, times, back, _) = row;
+    text.push_str(front)?;
+    push_times(text, middle, *times)?;
+    text.push_str(back)
+}
+
+fn expect_limit<R: Abort>(rt: &R, alloc: Global, row: &Limit) -> Shown {
+    let mut text = String::new(alloc);
+    push_limit(&mut text, row)?;
+    expect_told(rt, alloc, text.as_bytes(), row.4)
+}
+
 #[test]
 fn limits_are_exact(rt: HostRuntime) -> Result<(), Fail> {
-    for (front, middle, times, back, wanted) in &LIMITS {
-        let text = repeated(rt.alloc(), front, middle, *times, back)?;
-        let got = told(rt.alloc(), text.as_bytes())?;
-        assert_eq!(rt; got.as_str(), *wanted, "{front}, {times} and {back}");
+    for row in &LIMITS {
+        expect_limit(&rt, rt.alloc(), row)?;
     }
     Ok(())
 }
 
 #[test]
 fn a_comment_holds_any_bytes(rt: HostRuntime) -> Result<(), Fail> {
-    let got = told(rt.alloc(), b"! \xc3\xa9\n \xc3")?;
-    assert_eq!(rt; got.as_str(), " bad byte 2:2");
+    expect_told(&rt, rt.alloc(), b"! \xc3\xa9\n \xc3", " bad byte 2:2")?;
     Ok(())
 }

@@ -9,4 +9,6 @@ mod directives;
 #[cfg(test)]
 mod lexer;
 #[cfg(test)]
+mod texts;
+#[cfg(test)]
 mod trees;
