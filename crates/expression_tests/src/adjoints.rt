@@ -1,31 +1,51 @@
 //! Expressions of an adjoint's text.
 
-use crate::shown::{show_adjoint, show_failure};
-use adjoint_expressions::adjoint_expr;
+use crate::shown::{Shown, show_adjoint, show_failure};
+use adjoint_expressions::{AMeasured, adjoint_expr};
 use fl_lexer::lex;
-use parsing::Cursor;
+use parsing::{Cursor, Failure};
 use std::alloc::Global;
 use std::fmt::Write;
-use std::test::Fail;
+use std::process::Abort;
 
-/// What a text is read as, and how many tokens are left, the end of the line among them.
-fn told(alloc: Global, text: &str, brackets: usize, levels: u32) -> Result<String, Fail> {
-    let mut out = String::new(alloc);
-    if text.len() > 2_000_000_000 {
-        return Ok(out);
-    }
-    let tokens = lex(alloc, text.as_bytes())?;
-    let mut cursor = Cursor::new(text.as_bytes(), &tokens);
-    let outcome = adjoint_expr(alloc, &mut cursor, brackets, levels as usize);
-    let left = cursor.len();
-    match &outcome {
-        Ok(e) => {
-            show_adjoint(&mut out, e.expr.get())?;
-            write!(&mut out, " {left}")?;
+fn show(out: &mut String, outcome: &Result<AMeasured, Failure>, left: usize) -> Shown {
+    match outcome {
+        Ok(found) => {
+            show_adjoint(out, found.expr.get())?;
+            write!(out, " {left}")
         }
-        Err(failure) => show_failure(&mut out, failure)?,
+        Err(failure) => show_failure(out, failure),
     }
-    Ok(out)
+}
+
+/// Shows what a text is read as, and how many tokens are left, the end of the line among them.
+fn tell(out: &mut String, alloc: Global, text: &str, brackets: usize, levels: u32) -> Shown {
+    if text.len() > 2_000_000_000 {
+        return Ok(());
+    }
+    match lex(alloc, text.as_bytes()) {
+        Ok(tokens) => {
+            let mut cursor = Cursor::new(text.as_bytes(), &tokens);
+            let outcome = adjoint_expr(alloc, &mut cursor, brackets, levels as usize);
+            show(out, &outcome, cursor.len())
+        }
+        Err(_) => out.push_str("no tokens"),
+    }
+}
+
+/// What a text is read as is what is wanted.
+fn expect_told<R: Abort>(
+    rt: &R,
+    alloc: Global,
+    text: &str,
+    brackets: usize,
+    levels: u32,
+    wanted: &str,
+) -> Shown {
+    let mut got = String::new(alloc);
+    tell(&mut got, alloc, text, brackets, levels)?;
+    assert_eq!(rt; got.as_str(), wanted, "{text}");
+    Ok(())
 }
 
 static EXPRESSIONS: [(&str, usize, u32, &str); 17] = [
@@ -82,10 +102,9 @@ static EXPRESSIONS: [(&str, usize, u32, &str); 17] = [
 ];
 
 #[test]
-fn expressions_of_adjoints_are_read(rt: HostRuntime) -> Result<(), Fail> {
+fn expressions_of_adjoints_are_read(rt: HostRuntime) -> Shown {
     for (text, brackets, levels, wanted) in &EXPRESSIONS {
-        let got = told(rt.alloc(), text, *brackets, *levels)?;
-        assert_eq!(rt; got.as_str(), *wanted, "{text}");
+        expect_told(&rt, rt.alloc(), text, *brackets, *levels, wanted)?;
     }
     Ok(())
 }

@@ -1,31 +1,51 @@
 //! Conditions.
 
-use crate::shown::{show_cond, show_failure};
-use fl_conditions::cond;
+use crate::shown::{Shown, show_cond, show_failure};
+use fl_conditions::{Judged, cond};
 use fl_lexer::lex;
-use parsing::Cursor;
-use std::alloc::{AllocError, Global};
+use parsing::{Cursor, Failure};
+use std::alloc::Global;
 use std::fmt::Write;
-use std::test::Fail;
+use std::process::Abort;
 
-/// What a text is read as, and how many tokens are left, the end of the line among them.
-fn told(alloc: Global, text: &str, brackets: usize, levels: u32) -> Result<String, Fail> {
-    let mut out = String::new(alloc);
-    if text.len() > 2_000_000_000 {
-        return Ok(out);
-    }
-    let tokens = lex(alloc, text.as_bytes())?;
-    let mut cursor = Cursor::new(text.as_bytes(), &tokens);
-    let outcome = cond(alloc, &mut cursor, brackets, levels as usize);
-    let left = cursor.len();
-    match &outcome {
-        Ok(c) => {
-            show_cond(&mut out, c.cond.get())?;
-            write!(&mut out, " {left}")?;
+fn show(out: &mut String, outcome: &Result<Judged, Failure>, left: usize) -> Shown {
+    match outcome {
+        Ok(found) => {
+            show_cond(out, found.cond.get())?;
+            write!(out, " {left}")
         }
-        Err(failure) => show_failure(&mut out, failure)?,
+        Err(failure) => show_failure(out, failure),
     }
-    Ok(out)
+}
+
+/// Shows what a text is read as, and how many tokens are left, the end of the line among them.
+fn tell(out: &mut String, alloc: Global, text: &str, brackets: usize, levels: u32) -> Shown {
+    if text.len() > 2_000_000_000 {
+        return Ok(());
+    }
+    match lex(alloc, text.as_bytes()) {
+        Ok(tokens) => {
+            let mut cursor = Cursor::new(text.as_bytes(), &tokens);
+            let outcome = cond(alloc, &mut cursor, brackets, levels as usize);
+            show(out, &outcome, cursor.len())
+        }
+        Err(_) => out.push_str("no tokens"),
+    }
+}
+
+/// What a text is read as is what is wanted.
+fn expect_told<R: Abort>(
+    rt: &R,
+    alloc: Global,
+    text: &str,
+    brackets: usize,
+    levels: u32,
+    wanted: &str,
+) -> Shown {
+    let mut got = String::new(alloc);
+    tell(&mut got, alloc, text, brackets, levels)?;
+    assert_eq!(rt; got.as_str(), wanted, "{text}");
+    Ok(())
 }
 
 static CONDITIONS: [(&str, &str); 34] = [
@@ -86,10 +106,9 @@ static CONDITIONS: [(&str, &str); 34] = [
 ];
 
 #[test]
-fn conditions_are_read(rt: HostRuntime) -> Result<(), Fail> {
+fn conditions_are_read(rt: HostRuntime) -> Shown {
     for (text, wanted) in &CONDITIONS {
-        let got = told(rt.alloc(), text, 256, 62)?;
-        assert_eq!(rt; got.as_str(), *wanted, "{text}");
+        expect_told(&rt, rt.alloc(), text, 256, 62, wanted)?;
     }
     Ok(())
 }
@@ -121,24 +140,37 @@ static LIMITS: [(&str, usize, u32, &str); 17] = [
 ];
 
 #[test]
-fn limits_are_kept(rt: HostRuntime) -> Result<(), Fail> {
+fn limits_are_kept(rt: HostRuntime) -> Shown {
     for (text, brackets, levels, wanted) in &LIMITS {
-        let got = told(rt.alloc(), text, *brackets, *levels)?;
-        assert_eq!(rt; got.as_str(), *wanted, "{text}");
+        expect_told(&rt, rt.alloc(), text, *brackets, *levels, wanted)?;
     }
     Ok(())
 }
 
-fn repeated(alloc: Global, open: u32, middle: &str, close: u32) -> Result<String, AllocError> {
-    let mut text = String::new(alloc);
-    for _i in 0..open {
-        text.push('(')?;
+fn push_times(text: &mut String, bracket: char, times: u32) -> Shown {
+    for _time in 0..times {
+        text.push(bracket)?;
     }
+    Ok(())
+}
+
+fn push_nested(text: &mut String, open: u32, middle: &str, close: u32) -> Shown {
+    push_times(text, '(', open)?;
     text.push_str(middle)?;
-    for _i in 0..close {
-        text.push(')')?;
-    }
-    Ok(text)
+    push_times(text, ')', close)
+}
+
+fn expect_nested<R: Abort>(
+    rt: &R,
+    alloc: Global,
+    open: u32,
+    middle: &str,
+    close: u32,
+    wanted: &str,
+) -> Shown {
+    let mut text = String::new(alloc);
+    push_nested(&mut text, open, middle, close)?;
+    expect_told(rt, alloc, text.as_str(), 256, 62, wanted)
 }
 
 /// Brackets before, a text, and brackets behind it.
@@ -150,11 +182,9 @@ static NESTED: [(u32, &str, u32, &str); 4] = [
 ];
 
 #[test]
-fn nested_brackets_are_read_once(rt: HostRuntime) -> Result<(), Fail> {
+fn nested_brackets_are_read_once(rt: HostRuntime) -> Shown {
     for (open, middle, close, wanted) in &NESTED {
-        let text = repeated(rt.alloc(), *open, middle, *close)?;
-        let got = told(rt.alloc(), text.as_str(), 256, 62)?;
-        assert_eq!(rt; got.as_str(), *wanted, "{middle}");
+        expect_nested(&rt, rt.alloc(), *open, middle, *close, wanted)?;
     }
     Ok(())
 }

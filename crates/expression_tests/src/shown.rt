@@ -2,8 +2,10 @@
 
 use fl_ast::{AExpr, BinOp, Cond, Expr, Fun, Place, RelOp};
 use parsing::{Cause, Failure};
+use std::alloc::AllocError;
 use std::fmt::Write;
-use std::test::Fail;
+
+pub(crate) type Shown = Result<(), AllocError>;
 
 fn op_word(op: BinOp) -> &'static str {
     match op {
@@ -42,153 +44,190 @@ fn cause_word(cause: Cause) -> &'static str {
     }
 }
 
-fn show_name(out: &mut String, bytes: &[u8]) -> Result<(), Fail> {
+fn show_name(out: &mut String, bytes: &[u8]) -> Shown {
     for b in bytes {
         out.push(char::from(*b))?;
     }
     Ok(())
 }
 
+fn show_number(out: &mut String, number: u64) -> Shown {
+    write!(out, "{number}")
+}
+
+fn show_exponent(out: &mut String, exponent: u32) -> Shown {
+    write!(out, " {exponent}]")
+}
+
+fn open(out: &mut String, word: &str) -> Shown {
+    out.push('[')?;
+    out.push_str(word)
+}
+
 #[cycle(show)]
-fn show_place(out: &mut String, place: &Place) -> Result<(), Fail> {
+fn show_place(out: &mut String, place: &Place) -> Shown {
     show_name(out, place.name.bytes())?;
     for subscript in place.subscripts.as_slice() {
-        out.push_str(" at ")?;
-        show_expr(out, subscript)?;
+        show_subscript(out, subscript)?;
     }
     Ok(())
 }
 
 #[cycle(show)]
-fn show_expr(out: &mut String, e: &Expr) -> Result<(), Fail> {
+fn show_subscript(out: &mut String, subscript: &Expr) -> Shown {
+    out.push_str(" at ")?;
+    show_expr(out, subscript)
+}
+
+/// Shows an operand behind others, or behind the operator.
+#[cycle(show)]
+fn show_next(out: &mut String, operand: &Expr) -> Shown {
+    out.push(' ')?;
+    show_expr(out, operand)
+}
+
+/// Shows the last operand.
+#[cycle(show)]
+fn show_last(out: &mut String, operand: &Expr) -> Shown {
+    show_next(out, operand)?;
+    out.push(']')
+}
+
+#[cycle(show)]
+fn show_args(out: &mut String, args: &[Expr]) -> Shown {
+    for arg in args {
+        show_next(out, arg)?;
+    }
+    out.push(']')
+}
+
+#[cycle(show)]
+fn show_expr(out: &mut String, e: &Expr) -> Shown {
     match e {
-        Expr::Lit { value, .. } => {
-            let number = *value;
-            Ok(write!(out, "{number}")?)
-        }
+        Expr::Lit { value, .. } => show_number(out, *value),
         Expr::Get(place) => show_place(out, place),
         Expr::Neg(inner) => {
-            out.push_str("[- ")?;
-            show_expr(out, inner.get())?;
-            Ok(out.push(']')?)
+            open(out, "-")?;
+            show_last(out, inner.get())
         }
         Expr::Bin { op, left, right } => {
-            let word = op_word(*op);
-            write!(out, "[{word} ")?;
-            show_expr(out, left.get())?;
-            out.push(' ')?;
-            show_expr(out, right.get())?;
-            Ok(out.push(']')?)
+            open(out, op_word(*op))?;
+            show_next(out, left.get())?;
+            show_last(out, right.get())
         }
         Expr::Pow { base, exponent } => {
-            out.push_str("[** ")?;
-            show_expr(out, base.get())?;
-            let number = *exponent;
-            Ok(write!(out, " {number}]")?)
+            open(out, "**")?;
+            show_next(out, base.get())?;
+            show_exponent(out, *exponent)
         }
         Expr::Call { fun, args } => {
-            let word = fun_word(*fun);
-            write!(out, "[{word}")?;
-            for arg in args.as_slice() {
-                out.push(' ')?;
-                show_expr(out, arg)?;
-            }
-            Ok(out.push(']')?)
+            open(out, fun_word(*fun))?;
+            show_args(out, args.as_slice())
         }
     }
 }
 
-pub fn show_cond(out: &mut String, c: &Cond) -> Result<(), Fail> {
+#[cycle(show_conditions)]
+fn show_next_cond(out: &mut String, operand: &Cond) -> Shown {
+    out.push(' ')?;
+    show_cond(out, operand)
+}
+
+#[cycle(show_conditions)]
+fn show_last_cond(out: &mut String, operand: &Cond) -> Shown {
+    show_next_cond(out, operand)?;
+    out.push(']')
+}
+
+#[cycle(show_conditions)]
+pub fn show_cond(out: &mut String, c: &Cond) -> Shown {
     match c {
         Cond::Rel { op, left, right } => {
-            let word = rel_word(*op);
-            write!(out, "[{word} ")?;
-            show_expr(out, left)?;
-            out.push(' ')?;
-            show_expr(out, right)?;
-            Ok(out.push(']')?)
+            open(out, rel_word(*op))?;
+            show_next(out, left)?;
+            show_last(out, right)
         }
         Cond::Not(inner) => {
-            out.push_str("[not ")?;
-            show_cond(out, inner.get())?;
-            Ok(out.push(']')?)
+            open(out, "not")?;
+            show_last_cond(out, inner.get())
         }
         Cond::And(left, right) => {
-            out.push_str("[and ")?;
-            show_cond(out, left.get())?;
-            out.push(' ')?;
-            show_cond(out, right.get())?;
-            Ok(out.push(']')?)
+            open(out, "and")?;
+            show_next_cond(out, left.get())?;
+            show_last_cond(out, right.get())
         }
         Cond::Or(left, right) => {
-            out.push_str("[or ")?;
-            show_cond(out, left.get())?;
-            out.push(' ')?;
-            show_cond(out, right.get())?;
-            Ok(out.push(']')?)
+            open(out, "or")?;
+            show_next_cond(out, left.get())?;
+            show_last_cond(out, right.get())
         }
     }
 }
 
-pub fn show_adjoint(out: &mut String, e: &AExpr) -> Result<(), Fail> {
+#[cycle(show_adjoints)]
+fn show_next_adjoint(out: &mut String, operand: &AExpr) -> Shown {
+    out.push(' ')?;
+    show_adjoint(out, operand)
+}
+
+#[cycle(show_adjoints)]
+fn show_last_adjoint(out: &mut String, operand: &AExpr) -> Shown {
+    show_next_adjoint(out, operand)?;
+    out.push(']')
+}
+
+#[cycle(show_adjoints)]
+fn show_adjoint_args(out: &mut String, args: &[AExpr]) -> Shown {
+    for arg in args {
+        show_next_adjoint(out, arg)?;
+    }
+    out.push(']')
+}
+
+#[cycle(show_adjoints)]
+pub fn show_adjoint(out: &mut String, e: &AExpr) -> Shown {
     match e {
-        AExpr::Lit { value, .. } => {
-            let number = *value;
-            Ok(write!(out, "{number}")?)
-        }
+        AExpr::Lit { value, .. } => show_number(out, *value),
         AExpr::Get(place) => show_place(out, place),
         AExpr::Neg(inner) => {
-            out.push_str("[- ")?;
-            show_adjoint(out, inner.get())?;
-            Ok(out.push(']')?)
+            open(out, "-")?;
+            show_last_adjoint(out, inner.get())
         }
         AExpr::Bin { op, left, right } => {
-            let word = op_word(*op);
-            write!(out, "[{word} ")?;
-            show_adjoint(out, left.get())?;
-            out.push(' ')?;
-            show_adjoint(out, right.get())?;
-            Ok(out.push(']')?)
+            open(out, op_word(*op))?;
+            show_next_adjoint(out, left.get())?;
+            show_last_adjoint(out, right.get())
         }
         AExpr::Pow { base, exponent } => {
-            out.push_str("[** ")?;
-            show_adjoint(out, base.get())?;
-            let number = *exponent;
-            Ok(write!(out, " {number}]")?)
+            open(out, "**")?;
+            show_next_adjoint(out, base.get())?;
+            show_exponent(out, *exponent)
         }
         AExpr::Call { fun, args } => {
-            let word = fun_word(*fun);
-            write!(out, "[{word}")?;
-            for arg in args.as_slice() {
-                out.push(' ')?;
-                show_adjoint(out, arg)?;
-            }
-            Ok(out.push(']')?)
+            open(out, fun_word(*fun))?;
+            show_adjoint_args(out, args.as_slice())
         }
         AExpr::Merge {
             first,
             second,
             test,
         } => {
-            out.push_str("[merge ")?;
-            show_adjoint(out, first.get())?;
-            out.push(' ')?;
-            show_adjoint(out, second.get())?;
-            out.push(' ')?;
-            show_cond(out, test)?;
-            Ok(out.push(']')?)
+            open(out, "merge")?;
+            show_next_adjoint(out, first.get())?;
+            show_next_adjoint(out, second.get())?;
+            show_last_cond(out, test)
         }
     }
 }
 
 /// A refusal with the number of tokens from the refused one on.
-pub fn show_failure(out: &mut String, failure: &Failure) -> Result<(), Fail> {
+pub fn show_failure(out: &mut String, failure: &Failure) -> Shown {
     match failure {
-        Failure::Memory => Ok(out.push_str("memory")?),
+        Failure::Memory => out.push_str("memory"),
         Failure::Refused(fault) => {
             let word = cause_word(fault.cause);
             let left = fault.left;
-            Ok(write!(out, "{word} {left}")?)
+            write!(out, "{word} {left}")
         }
     }
 }
