@@ -72,7 +72,8 @@ fn data_of<'t>(alloc: Global, decls: &'t [Decl]) -> Result<Keys<'t>, Memory>
     Ok(keys)
 }
 
-fn mark_names<'t>(names: &'t [Name], keys: &mut Keys<'t>) -> Result<(), Memory>
+/// Adds the names.
+pub fn mark_names<'t>(names: &'t [Name], keys: &mut Keys<'t>) -> Result<(), Memory>
     ensures { OnOk result ((x : List ℕ) → sharing.has_name x keys.new ≡ (sharing.has_name x names.now || sharing.has_name x keys.old)) }
 {
     for name in names {
@@ -81,7 +82,8 @@ fn mark_names<'t>(names: &'t [Name], keys: &mut Keys<'t>) -> Result<(), Memory>
     Ok(())
 }
 
-fn keys_of<'t>(alloc: Global, names: &'t [Name]) -> Result<Keys<'t>, Memory>
+/// The set of the names.
+pub fn keys_of<'t>(alloc: Global, names: &'t [Name]) -> Result<Keys<'t>, Memory>
     ensures { IfOk result (λ keys. (x : List ℕ) → sharing.has_name x keys ≡ sharing.has_name x names.now) }
 {
     let mut keys = Keys::new(alloc);

@@ -6,5 +6,6 @@ mod indexed;
 mod keys;
 mod marks;
 
-pub use indexed::Indexed;
+pub use indexed::{Indexed, keys_of, mark_names};
 pub use keys::Keys;
+pub use marks::mark_varying;

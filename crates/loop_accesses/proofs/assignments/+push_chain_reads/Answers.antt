@@ -1,0 +1,24 @@
+use Rattle.std.proofs.Common.{rules, ◌≡◌, true, false, sym, ◌∙◌, subst, map}
+use Rattle.fl_ast.specs.declared.expr.Expr.{the_lemmas as expr_lemmas}
+use Rattle.fl_ast.specs.Tree.{Expression, binary, expr_tree, place_tree}
+use Rattle.fl_ast.specs.Same.{same_expression}
+use Rattle.fl_types.specs.Increment.{target_of, chain}
+use Rattle.loop_accesses.specs.Classes.{scope_by}
+use Rattle.loop_accesses.specs.Terms.{WithTerms, adds_terms}
+use Rattle.loop_accesses.specs.Views.{steps_of, occurrence_of}
+use Rattle.loop_accesses.proofs.Terms.{op_more}
+use Rattle.loop_accesses.proofs.assignments.+push_chain_reads.Goals as goal
+
+pub returns-in_ok-push_reads-in-Bin-2 : goal.returns-in_ok-push_reads-in-Bin-2
+returns-in_ok-push_reads-in-Bin-2 t c =
+    let s = scope_by c.args.names.now in
+    let k = steps_of c.args.path.now in
+    let u = target_of (place_tree c.args.target.now) in
+    let a = c.get-in-Bin.result.now in
+    let q = c.get.ensures ∙ sym c.get-in-Bin.ensures in
+    let b : expr_tree c.args.value.now ≡ binary c.in-Bin.op (expr_tree a) (expr_tree c.get-in-Bin-2.result.now) = search (rules, expr_lemmas) in
+    let h : adds_terms c.in-Bin.op ≡ true = search rules in
+    let d : same_expression u (expr_tree c.get.result.now) ≡ false = search rules in
+    let e : same_expression u (expr_tree a) ≡ false = subst (λ z. same_expression u (expr_tree z) ≡ false) q d in
+    subst (λ (x : Expression). WithTerms s c.args.line k (chain u x) (map occurrence_of c.args.found.now) (map occurrence_of c.push_reads-in-Bin.new.found)) (sym b)
+    (op_more s c.args.line k c.in-Bin.op u (expr_tree a) (expr_tree c.get-in-Bin-2.result.now) (map occurrence_of c.args.found.now) (map occurrence_of c.push_chain_reads.new.found) (map occurrence_of c.push_reads-in-Bin.new.found) h e c.in_ok-push_chain_reads-in-Bin.ensures c.in_ok-push_reads-in-Bin-2.ensures)

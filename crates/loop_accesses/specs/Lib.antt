@@ -1,0 +1,4 @@
+pub mod Views
+pub mod Classes
+pub mod Terms
+pub mod Numbers

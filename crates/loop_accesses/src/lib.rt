@@ -1,0 +1,13 @@
+//! The parallel loops of a program, and the accesses of each.
+#![tactic(auto)]
+
+mod assignments;
+mod classes;
+mod numbers;
+mod path;
+mod reads;
+mod statements;
+mod view;
+
+pub use numbers::accesses;
+pub use view::{LoopView, parallel_loops};
