@@ -5,6 +5,7 @@ use Rattle.std.specs.Prelude.{IfOk, IfErr}
 use Rattle.fl_base.specs.Finds.{Finds}
 use Rattle.tokens.specs.declared.Token.{Token}
 use Rattle.tokens.specs.Lexeme.{lexeme}
+use Rattle.tokens.specs.Spelled.{AreSpelled}
 use Rattle.fl_ast.specs.declared.adjoint.AdjointText.{AdjointText}
 use Rattle.parsing.specs.declared.fault.Cause.{Cause}
 use Rattle.parsing.specs.declared.fault.Cause.TheVariants.{Expected, Deep, Many, Construct, Unknown, Twice, Form}
@@ -19,6 +20,7 @@ use Rattle.fl_statements.specs.Limits.{Limits}
 use Rattle.fl_statements.specs.Wide.{Widens}
 use Rattle.adjoint_statements.specs.Rooms.{the_limits, narrower}
 use Rattle.adjoint_parser.specs.Parsed.{error_of, placed, parsed}
+use Rattle.adjoint_parser.specs.ReadableText.{IsReadableText}
 use Rattle.adjoint_parser.specs.Refuses.{Refuses, RefusedAnyhow, Told, unlimited, repeated}
 use Rattle.adjoint_parser.specs.AdjointGrammar as g
 use Rattle.adjoint_parser.specs.AdjointReading as p
@@ -28,6 +30,7 @@ use Rattle.parsing.proofs.Whole.{found, only, refused, freed, unfreed}
 use Rattle.fl_parser.proofs.Texts.{kept, gone, more, same_number, same_once, some_brackets}
 use Rattle.adjoint_statements.proofs.Widths.{Widths}
 use Rattle.adjoint_parser.proofs.AdjointUnits.{unit_exact}
+use Rattle.adjoint_parser.proofs.ReadableAdjoints.{readable_by_tokens}
 
 -- limits that stay
 staying : (l : Freed) (limits : Limits) → frees l Deep ≡ false → frees l Many ≡ false → frees l Twice ≡ false → nat_lt 0 limits.brackets ≡ true → Widens l limits limits
@@ -155,6 +158,10 @@ pub found_by : (text : List ℕ) (tokens : List Token) (r : Result AdjointText P
 unfolding parsed
 found_by text tokens (Ok x) h = found Nothing (g.unit the_limits) never (p.unit the_limits) (p.unit the_limits) reads_limits (map (lexeme text) tokens) x (placed_ok text tokens _ x h)
 found_by text tokens (Err e) h = tt
+
+pub readable_by : (text : List ℕ) (tokens : List Token) (r : Result AdjointText ParseError) → Finds (λ t. t) Memory (parsed text tokens) r → AreSpelled text 0 tokens → IfOk r IsReadableText
+readable_by text tokens (Ok x) h spelled = readable_by_tokens text tokens x spelled (found_by text tokens (Ok x) h)
+readable_by text tokens (Err e) h spelled = tt
 
 pub only_by : (text : List ℕ) (tokens : List Token) (r : Result AdjointText ParseError) → Finds (λ t. t) Memory (parsed text tokens) r →
     (x : AdjointText) → g.unit the_limits x (map (lexeme text) tokens) → Finds (λ t. t) Memory (Ok x) r

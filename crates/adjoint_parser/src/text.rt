@@ -5,10 +5,12 @@ ghost use Rattle.fl_ast.specs.declared.adjoint.AdjointText.{AdjointText};
 ghost use Rattle.fl_base.specs.Finds.{Finds};
 ghost use Rattle.tokens.specs.Lexeme.{lexeme};
 ghost use Rattle.tokens.specs.Spans.{Are_spans};
+ghost use Rattle.tokens.specs.Spelled.{AreSpelled};
 ghost use Rattle.parsing.specs.Refusal.{all_of};
 ghost use Rattle.parsing.specs.Code.{Gives};
 ghost use Rattle.adjoint_statements.specs.Rooms.{limits_of, the_limits};
 ghost use Rattle.adjoint_parser.specs.Parsed.{parsed};
+ghost use Rattle.adjoint_parser.specs.ReadableText.{IsReadableText};
 ghost use Rattle.adjoint_parser.specs.Refuses.{Refuses};
 ghost use Rattle.adjoint_parser.specs.AdjointGrammar as grammar;
 ghost use Rattle.adjoint_parser.specs.AdjointReading as spec;
@@ -62,6 +64,9 @@ pub fn parse_adjoint(
     // What is read is spelled so, and what is spelled so is read.
     ensures found { IfOk result (λ t. grammar.unit the_limits t (map (lexeme text.now) tokens.now)) }
     ensures only { (t : AdjointText) → grammar.unit the_limits t (map (lexeme text.now) tokens.now) → Finds (λ t. t) ParseError.Memory (Ok t) result }
+
+    // Where the tokens spell the text, as those of the lexer do, it is within the limits.
+    ensures readable { AreSpelled text.now 0 tokens.now → IfOk result IsReadableText }
 
     // A refusal has the first place at which no adjoint goes on, and tells whether a limit is why.
     ensures refused { IfErr result (λ e. e ≢ ParseError.Memory → Refuses text.now tokens.now e) }
