@@ -27,7 +27,7 @@ multiples_text (m ∷ ms) = multiple_text m ++ multiples_text ms
 abbrev pub line_words : Line → List ℕ
 line_words (Hyp d) = codes "hyp" ++ number_text d
 line_words (Comb ms) = codes "comb" ++ multiples_text ms
-line_words (Cong a b ls) = codes "cong" ++ number_text a ++ number_text b ++ numbers_text ls
+line_words (Cong a b ls) = codes "cong" ++ (number_text a ++ (number_text b ++ numbers_text ls))
 
 abbrev pub second_text : Option ℕ → List ℕ
 second_text None = []
@@ -40,7 +40,7 @@ close_words (Range l) = codes "close range" ++ number_text l
 close_words (Fact n ls) = codes "close fact" ++ number_text n ++ numbers_text ls
 
 abbrev pub pair_words : Heading → List ℕ
-pair_words h = codes "pair" ++ number_text h.loop_number ++ number_text h.first ++ number_text h.second
+pair_words h = codes "pair" ++ (number_text h.loop_number ++ (number_text h.first ++ number_text h.second))
 
 abbrev pub line_text : Line → List ℕ
 line_text l = line_words l ++ codes "\n"
@@ -50,7 +50,7 @@ lines_text [] = []
 lines_text (l ∷ ls) = line_text l ++ lines_text ls
 
 abbrev pub given_text : Given → List ℕ
-given_text g = pair_words g.heading ++ codes "\n" ++ lines_text g.derivation.lines ++ close_words g.derivation.close ++ codes "\nend\n"
+given_text g = pair_words g.heading ++ (codes "\n" ++ (lines_text g.derivation.lines ++ (close_words g.derivation.close ++ codes "\nend\n")))
 
 abbrev pub givens_text : List Given → List ℕ
 givens_text [] = []

@@ -56,7 +56,7 @@ fn push_row(text: &mut Vec<u8>, word: &[u8], number: u32, numbers: &[u32]) -> Re
 }
 
 fn push_cong(text: &mut Vec<u8>, first: u32, second: u32, lines: &[u32]) -> Result<(), AllocError>
-    ensures { OnOk result (text.new.items ≡ text.old.items ++ (codes "cong" ++ number_text first ++ number_text second ++ numbers_text lines.now)) }
+    ensures { OnOk result (text.new.items ≡ text.old.items ++ (codes "cong" ++ (number_text first ++ (number_text second ++ numbers_text lines.now)))) }
 {
     text.extend_from_slice(b"cong")?;
     push_number(text, first)?;
