@@ -1,3 +1,4 @@
+pub mod AdjointDone
 pub mod CommandsDone
 pub mod Lengths
 pub mod Shown

@@ -2,12 +2,15 @@
 use Rattle.std.specs.Prelude.{ℕ, ◌+◌, ◌≡◌, true, List, length, Option, Some, Ok}
 use Rattle.std.specs.List.{list_all}
 use Rattle.outside.specs.States.{Files}
+use Rattle.fl_ast.specs.declared.stmt.Program.{Program}
 use Rattle.fl_types.specs.Supported.{is_ring_argument, is_supported}
 use Rattle.store_core.specs.Places.{shapes_of}
 use Rattle.meaning.specs.Stops.{at_end}
 use Rattle.dual_meaning.specs.Runs.{stop_of, ticks_of}
 use Rattle.program_stage.specs.Accepted.{IsProgramOf}
 use Rattle.data_stages.specs.Files.{args_in, seed_in, direction_in}
+use Rattle.adjoint_stage.specs.Adjoints.{printed_adjoint}
+use Rattle.formad_words.specs.declared.words.Subject.{Subject}
 use Rattle.formad_words.specs.declared.words.Request.{Request}
 use Rattle.formad_words.specs.declared.words.Words.{Words}
 use Rattle.formad_words.specs.declared.words.Words.TheVariants as words
@@ -63,10 +66,20 @@ pub record IsTangentOf (files : Files) (program values direction : List ℕ) (te
   pub wrote : directed_text inputs ≡ text
   pub ticked : after ≡ before + ticks_of (directed_meaning inputs)
 
+-- the text is that of the adjoint of the program in the file, of the names that are asked for, which are its arguments
+pub record HasAdjoint (files : Files) (subject : Subject) (text : List ℕ) : Type 0 where
+  pub source : List ℕ
+  pub program : Program
+  pub program_file : files subject.program ≡ Some source
+  pub accepted : IsProgramOf source program
+  pub dependent : list_all (is_ring_argument program) subject.of ≡ true
+  pub independent : list_all (is_ring_argument program) subject.wrt ≡ true
+  pub wrote : printed_adjoint program subject.of subject.wrt ≡ text
+
 -- what is true of a command that is done: no other ones are built yet
 abbrev pub IsDone : Files → Words → List ℕ → (before after : ℕ) → Type 0
 IsDone files (words.Run request) text before after = IsRun files request text before after
-IsDone files (words.Adjoint subject) text before after = ⊥
+IsDone files (words.Adjoint subject) text before after = HasAdjoint files subject text × (after ≡ before)
 IsDone files (words.Prove subject) text before after = ⊥
 IsDone files (words.Check subject certificate) text before after = ⊥
 IsDone files (words.Report subject) text before after = ⊥

@@ -1,6 +1,7 @@
 //! The commands: each is its answer's text, or what is due in its place.
 #![tactic(auto)]
 
+mod adjoint;
 mod answer;
 mod directed;
 mod inputs;

@@ -4,6 +4,7 @@ ghost use Rattle.ending.specs.Stage.{IsStage};
 ghost use Rattle.commands.specs.Done.{IsDone};
 ghost use Rattle.commands.specs.Plans.{command_stage};
 
+use crate::adjoint::adjoint;
 use crate::run::run;
 use crate::tangent::tangent;
 use crate::unbuilt::{check, describe, replay};
@@ -27,7 +28,7 @@ pub fn outcome_of<F: Folder, L: Ledger>(
         IsDone files words.now text.items steps.old steps.new) }
 {
     match words {
-        Words::Adjoint(subject) => describe(alloc, folder, subject),
+        Words::Adjoint(subject) => adjoint(alloc, folder, subject),
         Words::Prove(subject) => describe(alloc, folder, subject),
         Words::Report(subject) => describe(alloc, folder, subject),
         Words::Check {
