@@ -3,7 +3,65 @@
 use crate::told::{Row, expect_adjoint};
 use std::test::Fail;
 
-static ROWS: [Row; 4] = [
+static ROWS: [Row; 5] = [
+    // one element an iteration, squared in its place
+    Row {
+        of: "x",
+        wrt: "x",
+        program: "subroutine sq(n, x)
+  integer :: n, i
+  integer(kind=8) :: x(n)
+  !$omp parallel do
+  do i = 1, n
+    x(i) = x(i)*x(i)
+  end do
+end subroutine sq
+",
+        adjoint: "subroutine sq_b(n, x, x_b)
+  implicit none
+  integer(kind=4) :: n
+  integer(kind=4) :: i
+  integer(kind=8) :: x(n)
+  integer(kind=8) :: x_b(n)
+  integer(kind=4) :: formad_lo1
+  integer(kind=4) :: formad_hi1
+  integer(kind=4) :: formad_by1
+  integer(kind=4) :: formad_k
+  integer(kind=4) :: formad_w
+  integer(kind=8) :: formad_t
+  formad_lo1 = 1
+  formad_hi1 = n
+  formad_by1 = 1
+  call formad_open(max(((formad_hi1-formad_lo1)+formad_by1)/formad_by1, 0))
+  !$omp parallel do private(formad_k, formad_w, formad_t)
+  do i = formad_lo1, formad_hi1, formad_by1
+    formad_k = (i-formad_lo1)/formad_by1
+    call formad_push(formad_k, x(i))
+    x(i) = x(i)*x(i)
+  end do
+  call formad_close()
+  call formad_push(-1, formad_lo1)
+  call formad_push(-1, formad_hi1)
+  call formad_push(-1, formad_by1)
+  call formad_pop(-1, formad_by1)
+  call formad_pop(-1, formad_hi1)
+  call formad_pop(-1, formad_lo1)
+  call formad_open(-1)
+  !$omp parallel do private(formad_k, formad_w, formad_t)
+  do i = formad_lo1, formad_hi1, formad_by1
+    formad_k = (i-formad_lo1)/formad_by1
+    formad_t = x_b(i)
+    x_b(i) = 0_8
+    call formad_pop(formad_k, x(i))
+    !$omp atomic
+    x_b(i) = x_b(i)+(formad_t*x(i))
+    !$omp atomic
+    x_b(i) = x_b(i)+(formad_t*x(i))
+  end do
+  call formad_close()
+end subroutine sq_b
+",
+    },
     // an atomic chain of three terms that is undone by one term, and a sum before the place
     Row {
         of: "y",

@@ -1,9 +1,11 @@
 //! The adjoint of a program.
 
+use adjoint_parser::parse_adjoint;
 use adjoint_stage::load_adjoint;
 use ending::Early;
 use fl_ast::Name;
 use fl_base::{Items, Memory};
+use fl_lexer::lex;
 use outside::MemFolder;
 use std::alloc::Global;
 use std::process::Abort;
@@ -45,8 +47,23 @@ fn adjoint_of(alloc: Global, row: &Row) -> Result<Vec<u8>, Memory> {
     }
 }
 
+/// Whether the text reads as an adjoint.
+fn is_read(alloc: Global, text: &[u8]) -> bool {
+    if text.len() > 2_000_000_000 {
+        return false;
+    }
+    match lex(alloc, text) {
+        Ok(tokens) => match parse_adjoint(alloc, text, tokens.as_slice()) {
+            Ok(_) => true,
+            Err(_) => false,
+        },
+        Err(_) => false,
+    }
+}
+
 pub(crate) fn expect_adjoint<R: Abort>(rt: &R, alloc: Global, row: &Row) -> Result<(), Fail> {
     let got = String::from_utf8(adjoint_of(alloc, row)?)?;
     assert_eq!(rt; got.as_str(), row.adjoint, "{}", row.program);
+    assert!(rt; is_read(alloc, row.adjoint.as_bytes()));
     Ok(())
 }
