@@ -7,7 +7,7 @@ use Rattle.std.specs.declared.cmp.Ordering.TheVariants.{Less, Equal, Greater}
 use Rattle.index_forms.specs.declared.form.Side.{Side}
 use Rattle.index_forms.specs.declared.form.Side.TheVariants.{One, Two}
 use Rattle.index_forms.specs.Form.{Atom, start, iter, inner, inv, version, read, opaque, start2, iter2, Form, form, Terms, no_terms, term, Forms, no_forms, and_form, atom_order, form_order, terms_order, forms_order, then_by, nat_order, int_order, name_order, side_order}
-use Rattle.index_law.proofs.AtomOrder.{form-equal}
+use Rattle.index_forms.proofs.AtomOrder.{form-equal}
 use Rattle.certificate_rules.specs.Tests.{is_equal, same_form, matches, same_side, is_iter, is_iter2}
 
 then-refl : (o p : Ordering) → o ≡ Equal → p ≡ Equal → then_by o p ≡ Equal

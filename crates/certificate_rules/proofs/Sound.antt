@@ -11,7 +11,7 @@ use Rattle.index_forms.specs.Form.{Atom, iter, inner, read, iter2, Form, form, T
 use Rattle.index_forms.specs.Sums.{total, value, values, Congruent, plus_scaled, differences, fits_in}
 use Rattle.index_forms.specs.Formed.{zero_form, atom_form}
 use Rattle.index_forms.proofs.Ints.{apart, abs-positive, abs-sum-dvd, abs-product-dvd, abs-opposite, abs-between, times-low, times-high, abs-is, times-sum, neg-times}
-use Rattle.index_law.proofs.Worths.{value-plus, value-minus}
+use Rattle.index_forms.proofs.Worths.{value-plus, value-minus}
 use Rattle.index_knowledge.specs.Knowledge.{KnownPair}
 use Rattle.index_ranges.specs.Ranges.{KnownRange}
 use Rattle.certificate_rules.specs.Derivations.{Line, hyp, comb, cong, Close, distinct, residue, range, fact, Derived}

@@ -5,7 +5,7 @@ use Rattle.std.proofs.lemmas.Slice.Eq.{bytes_eq-Decides}
 use Rattle.index_forms.specs.Form.{Form, form, Forms, forms_order}
 use Rattle.index_forms.specs.Sums.{differences}
 use Rattle.index_forms.specs.Formed.{zero_form}
-use Rattle.index_law.proofs.AtomOrder.{forms-equal}
+use Rattle.index_forms.proofs.AtomOrder.{forms-equal}
 use Rattle.index_knowledge.specs.Knowledge.{KnownFact, KnownPair}
 use Rattle.certificate_rules.specs.Derivations.{Line, hyp, comb, cong, Close, distinct, residue, range, fact, Derived}
 use Rattle.certificate_rules.specs.Surveys.{Survey, numbered, fact_serves}

@@ -1,8 +1,10 @@
 pub mod Ints
+pub mod AtomOrder
+pub mod Worths
 mod Ends
 mod TermPlaces
 mod Seens
-mod Bounds
+mod Added
 mod Parts
 mod Origins
 mod Linears

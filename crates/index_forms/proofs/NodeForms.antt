@@ -1,18 +1,18 @@
 -- The form of a node, from those of its parts.
-use Rattle.std.proofs.Common.{◌≡◌, ℕ, suc, ◌<◌, ◌≤◌, Bool, true, false, if◌then◌else◌, pos, List, [], ◌∷◌, ◌++◌, map, drop, length, get_or, Option, Some, None, refl, sym, ap, ◌∙◌, subst, arith}
+use Rattle.std.proofs.Common.{◌≡◌, ℕ, suc, ◌<◌, ◌≤◌, true, false, pos, List, [], ◌∷◌, ◌++◌, map, drop, length, get_or, Option, Some, None, refl, sym, ap, ◌∙◌, subst, arith}
 use Rattle.std.proofs.Math.Seq.{drop-cons}
 use Rattle.std.proofs.lemmas.List.{drop_all}
 use Rattle.fl_ast.specs.declared.kind.Kind.{Kind}
 use Rattle.fl_ast.specs.declared.kind.BinOp.{BinOp}
 use Rattle.fl_ast.specs.declared.expr.Expr as program_expr
-use Rattle.fl_ast.specs.Tree.{Expression, literal, get, minus, binary, power, call, Expressions, no_expressions, expression, expr_tree, expr_trees}
+use Rattle.fl_ast.specs.Tree.{Expression, literal, get, minus, binary, Expressions, no_expressions, expr_tree, expr_trees}
 use Rattle.index_forms.specs.declared.difference.Extent.TheVariants.{Narrow}
 use Rattle.index_forms.specs.declared.form.Form as program_form
 use Rattle.index_forms.specs.declared.nodes.FormedNode.{FormedNode}
 use Rattle.index_forms.specs.Form.{Atom, read, opaque, Form, form, no_terms, Forms, no_forms, and_form}
 use Rattle.index_forms.specs.Seen.{form_tree, forms_of}
-use Rattle.index_forms.specs.Sums.{fits_in, if_fitting}
-use Rattle.index_forms.specs.Formed.{Viewed, FormedAll, node, keep, if_narrow, linear, negative, atom_form, element_node, element_at, formed, formed_all}
+use Rattle.index_forms.specs.Sums.{if_fitting}
+use Rattle.index_forms.specs.Formed.{Viewed, node, if_narrow, linear, negative, atom_form, element_at, formed, formed_all}
 use Rattle.index_forms.specs.Finding.{IsFormed, node_by}
 
 -- leaves aside
@@ -43,35 +43,6 @@ binary_formed c n op a b o k m f g r e d i j q h =
     let p : o ≡ if_narrow (linear op u.form (formed c u.next b).form) = q ∙ ap (λ (t : Form). if_narrow (linear op t g)) e ∙ ap (λ (t : Form). if_narrow (linear op u.form t)) gi in
     same_node c (formed c u.next b).next (binary op a b) (u.leaves ++ (formed c u.next b).leaves) (if_narrow (linear op u.form (formed c u.next b).form)) r
     (subst (λ (z : Option Form). IsFormed (node_by c.side c.access (formed c u.next b).next z) r) p (subst (λ (l : ℕ). IsFormed (node_by c.side c.access l o) r) mj h))
-
--- ---- each form's numbers are small
-
-kept_by : (c : Viewed) (n : ℕ) (e : Expression) (ls : List (Atom × Expression)) (f : Form) (b : Bool) → fits_in Narrow f ≡ b → fits_in Narrow (node c n e ls (if b then Some f else None)).form ≡ true
-kept_by c n e ls f true h = h
-kept_by c n e ls f false h = refl
-
-kept_fits : (c : Viewed) (n : ℕ) (e : Expression) (ls : List (Atom × Expression)) (o : Option Form) → fits_in Narrow (keep c n e ls o).form ≡ true
-kept_fits c n e ls None = refl
-kept_fits c n e ls (Some f) = kept_by c n e ls f (fits_in Narrow f) refl
-
-element_by : (b : Bool) (c : Viewed) (n : ℕ) (x : List ℕ) (ss : Expressions) (u : FormedAll) → c.fixed x ≡ b → fits_in Narrow (element_node c n x ss u).form ≡ true
-element_by true c n x ss u h = rw h refl
-element_by false c n x ss u h = rw h refl
-
-formed_fits : (c : Viewed) (n : ℕ) (e : Expression) → fits_in Narrow (formed c n e).form ≡ true
-formed_fits c n (literal k kind) = kept_fits c n (literal k kind) [] (Some (form (pos k) no_terms))
-formed_fits c n (get x no_expressions) = kept_fits c n (get x no_expressions) [] (c.known x)
-formed_fits c n (get x (expression e es)) = element_by (c.fixed x) c n x (expression e es) (formed_all c n (expression e es)) refl
-formed_fits c n (minus a) = kept_fits c (formed c n a).next (minus a) (formed c n a).leaves (Some (negative (formed c n a).form))
-formed_fits c n (binary op a b) =
-    let f = formed c n a in
-    let g = formed c f.next b in
-    kept_fits c g.next (binary op a b) (f.leaves ++ g.leaves) (linear op f.form g.form)
-formed_fits c n (power a k) = refl
-formed_fits c n (call g es) = refl
-
-pub fits_by : (c : Viewed) (n : ℕ) (e : Expression) (f : Form) → f ≡ (formed c n e).form → fits_in Narrow f ≡ true
-fits_by c n e f h = ap (fits_in Narrow) h ∙ formed_fits c n e
 
 -- ---- elements
 

@@ -1,18 +1,16 @@
 -- One step of the search for a spot.
-use Rattle.std.proofs.Common.{◌≡◌, ℕ, zero, suc, ◌+◌, ◌<◌, ◌≤◌, ℤ, ◌+ℤ◌, List, [], ◌∷◌, length, take, drop, map, get_or, ◌++◌, pos, negsuc, unsigned_abs, Some, refl, sym, ap, ◌∙◌, arith}
+use Rattle.std.proofs.Common.{◌≡◌, ℕ, zero, suc, ◌+◌, ◌<◌, ◌≤◌, ℤ, ◌+ℤ◌, List, [], ◌∷◌, length, take, drop, map, get_or, ◌++◌, pos, negsuc, Some, refl, sym, ap, ◌∙◌, arith}
 use Rattle.std.proofs.lemmas.List.{drop_all, take-map, drop-map, take-append-drop, take_at, drop_at, length-take}
 use Rattle.std.specs.declared.cmp.Ordering.{Ordering}
 use Rattle.std.specs.declared.cmp.Ordering.TheVariants.{Less, Equal, Greater}
 use Rattle.index_forms.specs.declared.sum.TermPlace.TheVariants.{At, Before}
 use Rattle.index_forms.specs.declared.form.Atom as program
 use Rattle.std.specs.List.{insert as put_at, remove, slice_get}
-use Rattle.std.proofs.lemmas.Int.{ints}
 use Rattle.std.proofs.Math.Seq.{drop-cons}
-use Rattle.index_forms.proofs.Ints.{abs-is}
 use Rattle.index_forms.specs.Form.{Atom, Terms, term, atom_order}
 use Rattle.index_forms.specs.Seen.{terms_of, atom_tree, term_tree}
 use Rattle.index_forms.specs.Sums.{insert, kept}
-use Rattle.index_forms.specs.Places.{joined, more_of, PlaceIs, TermsBelow}
+use Rattle.index_forms.specs.Places.{joined, more_of, PlaceIs}
 
 -- the search has come as far as i
 abbrev pub Sought : Atom → List (Atom × ℤ) → ℕ → Type 0
@@ -91,12 +89,6 @@ put-some xs i a k h = rw (take-map term_tree i xs, drop-map term_tree i xs, kept
 pub put-none : (xs : L) (i : ℕ) (a : program.Atom) (k : ℤ) → k ≡ pos 0 → terms_of (map term_tree xs) ≡ joined (take i (map term_tree xs)) (kept (atom_tree a) k (terms_of (drop i (map term_tree xs))))
 put-none xs i a k h = rw h (ap terms_of (sym (take-append-drop i (map term_tree xs))) ∙ terms-join (take i (map term_tree xs)) (drop i (map term_tree xs)))
 
--- the bound, at a place
-pub below-at : (b : ℕ) (xs : L) (i : ℕ) (x : program.Atom × ℤ) → TermsBelow b (terms_of (map term_tree xs)) → i < length xs → get_or xs i x ≡ x → unsigned_abs x.1 < b
-below-at b [] i x t h e = absurd (omega arith)
-below-at b (y ∷ xs) zero x t h e = let w : unsigned_abs y.1 ≡ unsigned_abs x.1 = ap (λ (z : program.Atom × ℤ). unsigned_abs z.1) e in omega (arith, w, t.0)
-below-at b (y ∷ xs) (suc i) x t h e = below-at b xs i x t.1 (omega arith) e
-
 -- the item at i replaced by itself with k more
 pub drop-at : (xs : L) (i : ℕ) (x : program.Atom × ℤ) → i < length xs → get_or xs i x ≡ x → drop i xs ≡ x ∷ drop (suc i) xs
 drop-at xs i x h e = drop-cons xs i x h ∙ ap (λ (z : program.Atom × ℤ). z ∷ drop (suc i) xs) e
@@ -124,6 +116,3 @@ pub got : (xs : L) (i : ℕ) (x : program.Atom × ℤ) → slice_get xs i ≡ So
 got [] i x e = refl
 got (y ∷ xs) zero x e = cc
 got (y ∷ xs) (suc i) x e = got xs i x e
-
-pub sum-small : (k m : ℤ) (b c : ℕ) → unsigned_abs k < b → unsigned_abs m < c → unsigned_abs (k +ℤ m) < b + c
-sum-small k m b c p q = omega (arith, ints, abs-is k, abs-is m, abs-is (k +ℤ m))

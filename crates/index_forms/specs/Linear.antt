@@ -1,6 +1,6 @@
 -- Parts of linear nodes.
-use Rattle.std.specs.Prelude.{◌≤◌, Bool, true, false, unsigned_abs}
-use Rattle.index_forms.specs.Form.{Form, form, Terms, no_terms, term}
+use Rattle.std.specs.Prelude.{Bool, true, false}
+use Rattle.index_forms.specs.Form.{Form, form, no_terms, term}
 use Rattle.index_forms.specs.Sums.{plus_scaled}
 use Rattle.index_forms.specs.Formed.{zero_form}
 
@@ -11,11 +11,3 @@ scaled_by (form k ts) g = plus_scaled k g zero_form
 abbrev pub has_terms : Form → Bool
 has_terms (form k no_terms) = false
 has_terms (form k (term a m ts)) = true
-
--- an atom once
-abbrev pub IsOnce : Form → Type 0
-IsOnce (form k no_terms) = Unit {0}
-IsOnce (form k (term a m ts)) = (unsigned_abs m ≤ 1) × IsEnd ts where
-  IsEnd : Terms → Type 0
-  IsEnd no_terms = Unit {0}
-  IsEnd (term b n us) = ⊥

@@ -3,6 +3,8 @@ use Rattle.std.specs.Prelude.{ℤ, List, map, if◌then◌else◌, Option, Some,
 use Rattle.index_forms.specs.declared.form.Atom.{Atom}
 use Rattle.index_forms.specs.declared.form.Form.{Form}
 use Rattle.index_forms.specs.declared.difference.Extent.{Extent}
+use Rattle.index_forms.specs.declared.difference.FormSum.{FormSum}
+use Rattle.index_forms.specs.Form as plain
 use Rattle.index_forms.specs.Seen.{term_tree, terms_of}
 use Rattle.index_forms.specs.Sums.{lies_in, all_lie_in}
 
@@ -16,3 +18,7 @@ abbrev pub both_parts : Option ℤ → Option (List (Atom × ℤ)) → Option Fo
 both_parts None o = None
 both_parts (Some c) None = None
 both_parts (Some c) (Some ts) = Some (record { constant = c; terms = ts })
+
+-- the form that a sum is
+abbrev pub sum_seen : FormSum → plain.Form
+sum_seen s = plain.form s.constant (terms_of (map term_tree s.terms))

@@ -1,5 +1,5 @@
 -- Where a term is put.
-use Rattle.std.specs.Prelude.{◌≡◌, ℕ, ◌+◌, ◌^◌, ◌<◌, ◌≤◌, ◌⊎◌, ℤ, ◌+ℤ◌, ◌*ℤ◌, unsigned_abs, List, [], ◌∷◌, length, take, drop}
+use Rattle.std.specs.Prelude.{◌≡◌, ◌<◌, ◌≤◌, ℤ, ◌+ℤ◌, List, [], ◌∷◌, length, take, drop}
 use Rattle.index_forms.specs.declared.sum.TermPlace.{TermPlace}
 use Rattle.index_forms.specs.declared.sum.TermPlace.TheVariants.{At, Before}
 use Rattle.index_forms.specs.Form.{Atom, Terms, no_terms, term}
@@ -19,16 +19,3 @@ more_of k (p ∷ ps) = kept p.0 (k +ℤ p.1) (terms_of ps)
 abbrev pub PlaceIs : Atom → List (Atom × ℤ) → TermPlace → Type 0
 PlaceIs a ps (At i) = (i < length ps) × ((k : ℤ) → insert a k (terms_of ps) ≡ joined (take i ps) (more_of k (drop i ps)))
 PlaceIs a ps (Before i) = (i ≤ length ps) × ((k : ℤ) → insert a k (terms_of ps) ≡ joined (take i ps) (kept a k (terms_of (drop i ps))))
-
-abbrev pub TermsBelow : ℕ → Terms → Type 0
-TermsBelow b no_terms = Unit {0}
-TermsBelow b (term a k ts) = (unsigned_abs k < b) × TermsBelow b ts
-
--- m times the terms
-abbrev pub ProductsBelow : ℕ → ℤ → Terms → Type 0
-ProductsBelow b m no_terms = Unit {0}
-ProductsBelow b m (term a k ts) = (unsigned_abs (m *ℤ k) < b) × ProductsBelow b m ts
-
--- few enough bits that m times the terms can be added one by one
-abbrev pub HasRoom : ℤ → Terms → Type 0
-HasRoom m ts = (unsigned_abs m ≤ 1) ⊎ ProductsBelow (2 ^ 63 + 1) m ts

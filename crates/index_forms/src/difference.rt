@@ -1,11 +1,12 @@
-ghost use Rattle.std.specs.Prelude.{◌≡◌, map, ◌*ℤ◌, ◌+ℤ◌, IfOk, option_map};
-ghost use Rattle.index_forms.specs.Seen.{form_tree, term_tree, terms_of};
+ghost use Rattle.std.specs.Prelude.{◌≡◌, OnOk, IfOk, option_map};
+ghost use Rattle.index_forms.specs.Seen.{form_tree};
 ghost use Rattle.index_forms.specs.Sums.{lies_in, if_fitting, plus_scaled, difference};
-ghost use Rattle.index_forms.specs.Places.{HasRoom};
-ghost use Rattle.index_forms.specs.Parts.{if_lying, if_all_lying, both_parts};
+ghost use Rattle.index_forms.specs.Formed.{zero_form};
+ghost use Rattle.index_forms.specs.Parts.{if_lying, if_all_lying, both_parts, sum_seen};
 
 use crate::form::{Atom, Form};
-use crate::sum::{product, sum_of_scaled};
+use crate::row::Row;
+use crate::sum::{add_terms, exact_sum, product, widened};
 use fl_base::{Items, Memory};
 use std::alloc::Global;
 
@@ -57,18 +58,6 @@ fn narrowed_terms(
     Ok(Some(all))
 }
 
-fn scaled_constant(m: i64, added: &Form, to: &Form) -> i128
-    ensures { result ≡ ((m *ℤ added.now.constant) +ℤ to.now.constant) }
-{
-    product(m, added.constant) + (to.constant as i128)
-}
-
-fn narrowed_constant(extent: Extent, m: i64, added: &Form, to: &Form) -> Option<i64>
-    ensures { result ≡ if_lying extent ((m *ℤ added.now.constant) +ℤ to.now.constant) }
-{
-    narrowed(extent, scaled_constant(m, added, to))
-}
-
 fn form_of_parts(constant: Option<i64>, terms: Option<Items<(Atom, i64)>>) -> Option<Form>
     ensures { result ≡ both_parts constant terms }
 {
@@ -81,6 +70,51 @@ fn form_of_parts(constant: Option<i64>, terms: Option<Items<(Atom, i64)>>) -> Op
     }
 }
 
+/// A sum of multiples of forms, whose numbers may be larger than those of a form.
+#[derive(Drop)]
+pub struct FormSum {
+    constant: i128,
+    terms: Row<(Atom, i128)>,
+}
+
+impl FormSum {
+    /// The empty sum, which takes no memory.
+    pub fn new(alloc: Global) -> FormSum
+        ensures { sum_seen result ≡ zero_form }
+    {
+        FormSum {
+            constant: 0,
+            terms: Row::new(alloc),
+        }
+    }
+
+    fn of(alloc: Global, form: &Form) -> Result<FormSum, Memory>
+        ensures { IfOk result (λ s. sum_seen s ≡ form_tree form.now) }
+    {
+        Ok(FormSum {
+            constant: form.constant as i128,
+            terms: widened(alloc, form.terms.as_slice())?,
+        })
+    }
+
+    /// Adds `m` times the form. A number beyond 127 bits counts as want of memory.
+    pub fn add(&mut self, alloc: Global, m: i64, form: &Form) -> Result<(), Memory>
+        ensures { OnOk result (sum_seen self.new ≡ plus_scaled m (form_tree form.now) (sum_seen self.old)) }
+    {
+        self.constant = exact_sum(product(m, form.constant), self.constant)?;
+        add_terms(alloc, m, form.terms.as_slice(), &mut self.terms)?;
+        Ok(())
+    }
+
+    /// The form, where its numbers lie in the bounds.
+    pub fn narrowed(&self, alloc: Global, extent: Extent) -> Result<Option<Form>, Memory>
+        ensures { IfOk result (λ o. option_map form_tree o ≡ if_fitting extent (sum_seen self.now)) }
+    {
+        let terms = narrowed_terms(alloc, extent, self.terms.as_slice())?;
+        Ok(form_of_parts(narrowed(extent, self.constant), terms))
+    }
+}
+
 /// `m` times the form `added`, and the form `to`, where all numbers of the sum lie in the bounds.
 pub fn plus_scaled(
     alloc: Global,
@@ -89,12 +123,11 @@ pub fn plus_scaled(
     to: &Form,
     extent: Extent,
 ) -> Result<Option<Form>, Memory>
-    requires { HasRoom m (terms_of (map term_tree added.now.terms)) }
     ensures { IfOk result (λ o. option_map form_tree o ≡ if_fitting extent (plus_scaled m (form_tree added.now) (form_tree to.now))) }
 {
-    let terms = sum_of_scaled(alloc, m, added.terms.as_slice(), to.terms.as_slice())?;
-    let narrow = narrowed_terms(alloc, extent, terms.as_slice())?;
-    Ok(form_of_parts(narrowed_constant(extent, m, added, to), narrow))
+    let mut sum = FormSum::of(alloc, to)?;
+    sum.add(alloc, m, added)?;
+    sum.narrowed(alloc, extent)
 }
 
 /// The left form without the right one; None exactly where a number of the difference leaves -2^62 .. 2^62.

@@ -17,7 +17,9 @@ mod sum;
 mod walk;
 mod written;
 
-pub use difference::subtract;
+pub use difference::{Extent, FormSum, subtract};
 pub use form::{Atom, Form, Side};
+pub use linear::form_of_atom;
 pub use scene::{Counter, Scene};
+pub use sum::{exact_sum, product};
 pub use walk::forms_of_accesses;

@@ -1,13 +1,13 @@
 //! Linear nodes: sums, differences, and products with a constant form.
 
-ghost use Rattle.std.specs.Prelude.{◌≡◌, IfOk, option_map, true};
+ghost use Rattle.std.specs.Prelude.{◌≡◌, IfOk, option_map};
 ghost use Rattle.index_forms.specs.declared.difference.Extent.TheVariants as extent;
 ghost use Rattle.index_forms.specs.Form.{form as form_lem, no_terms};
 ghost use Rattle.fl_ast.specs.declared.kind.BinOp.TheVariants.{Mul};
 ghost use Rattle.index_forms.specs.Seen.{atom_tree, form_tree};
-ghost use Rattle.index_forms.specs.Sums.{fits_in, if_fitting, plus_scaled as plus_scaled_lem};
+ghost use Rattle.index_forms.specs.Sums.{if_fitting, plus_scaled as plus_scaled_lem};
 ghost use Rattle.index_forms.specs.Formed.{if_narrow, negative, linear, atom_form};
-ghost use Rattle.index_forms.specs.Linear.{scaled_by, has_terms as has_terms_lem, IsOnce};
+ghost use Rattle.index_forms.specs.Linear.{scaled_by, has_terms as has_terms_lem};
 ghost use Rattle.index_forms.specs.Loops.{base_form, variable_by};
 
 use crate::difference::{Extent, plus_scaled};
@@ -44,8 +44,6 @@ pub fn negated(alloc: Global, form: &Form) -> Result<Option<Form>, Memory>
 }
 
 fn scaled(alloc: Global, by: &Form, form: &Form) -> Result<Option<Form>, Memory>
-    requires by { fits_in extent.Narrow (form_tree by.now) ≡ true }
-    requires form { fits_in extent.Narrow (form_tree form.now) ≡ true }
     ensures { IfOk result (λ o. option_map form_tree o ≡ if_fitting extent.Narrow (scaled_by (form_tree by.now) (form_tree form.now))) }
 {
     let zero = constant_form(alloc, 0);
@@ -65,8 +63,6 @@ fn has_terms(form: &Form) -> bool
 /// A product with a constant form.
 #[tactic(auto, using(crate::proofs::Linears::product_left, crate::proofs::Linears::product_right, crate::proofs::Linears::product_none))]
 fn product(alloc: Global, left: &Form, right: &Form) -> Result<Option<Form>, Memory>
-    requires left { fits_in extent.Narrow (form_tree left.now) ≡ true }
-    requires right { fits_in extent.Narrow (form_tree right.now) ≡ true }
     ensures { IfOk result (λ o. option_map form_tree o ≡ if_narrow (linear Mul (form_tree left.now) (form_tree right.now))) }
 {
     if !has_terms(left) {
@@ -80,8 +76,6 @@ fn product(alloc: Global, left: &Form, right: &Form) -> Result<Option<Form>, Mem
 
 /// The form of an operation on two forms, where it has one.
 pub fn combined(alloc: Global, op: BinOp, left: &Form, right: &Form) -> Result<Option<Form>, Memory>
-    requires left { fits_in extent.Narrow (form_tree left.now) ≡ true }
-    requires right { fits_in extent.Narrow (form_tree right.now) ≡ true }
     ensures { IfOk result (λ o. option_map form_tree o ≡ if_narrow (linear op (form_tree left.now) (form_tree right.now))) }
 {
     match op {
@@ -103,7 +97,6 @@ fn base(alloc: Global, atom: Boxed<Atom>, first: Option<i64>) -> Result<Form, Me
 }
 
 fn counted(alloc: Global, step: i64, counter: &Form, base: &Form) -> Result<Option<Form>, Memory>
-    requires { IsOnce (form_tree counter.now) }
     ensures { IfOk result (λ o. option_map form_tree o ≡ if_fitting extent.Narrow (plus_scaled_lem step (form_tree counter.now) (form_tree base.now))) }
 {
     plus_scaled(alloc, step, counter, base, Extent::Narrow)

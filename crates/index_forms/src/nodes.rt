@@ -90,7 +90,7 @@ fn element(alloc: Global, name: &Name, nodes: FormedNodes) -> Result<FormedNode,
 
 /// The form of an expression in an access, `n` counting the opaque nodes before it.
 #[cycle(form_of_expr)]
-#[tactic(auto, using(crate::proofs::NodeForms::literal_formed, crate::proofs::NodeForms::negative_formed, crate::proofs::NodeForms::binary_formed, crate::proofs::NodeForms::fits_by, crate::proofs::NodeForms::scalar_formed, crate::proofs::NodeForms::loose_formed, crate::proofs::NodeForms::element_formed))]
+#[tactic(auto, using(crate::proofs::NodeForms::literal_formed, crate::proofs::NodeForms::negative_formed, crate::proofs::NodeForms::binary_formed, crate::proofs::NodeForms::scalar_formed, crate::proofs::NodeForms::loose_formed, crate::proofs::NodeForms::element_formed))]
 fn form_of_expr(
     alloc: Global,
     scene: &Scene,

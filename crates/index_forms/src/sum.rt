@@ -1,7 +1,9 @@
-ghost use Rattle.std.specs.Prelude.{◌≡◌, map, take, drop, length, ◌+◌, ◌<◌, ◌≤◌, ◌^◌, ◌*ℤ◌, unsigned_abs, OnOk, IfOk};
+//! Sums over sorted terms. A number beyond 127 bits counts as want of memory: with multipliers of 32 bits it takes more than 2^32 terms.
+
+ghost use Rattle.std.specs.Prelude.{◌≡◌, map, take, drop, length, ◌<◌, ◌≤◌, ◌+ℤ◌, ◌*ℤ◌, OnOk, IfOk};
 ghost use Rattle.index_forms.specs.Seen.{atom_tree, term_tree, terms_of};
 ghost use Rattle.index_forms.specs.Sums.{insert, kept, add_scaled};
-ghost use Rattle.index_forms.specs.Places.{PlaceIs, TermsBelow, HasRoom, joined, more_of};
+ghost use Rattle.index_forms.specs.Places.{PlaceIs, joined, more_of};
 
 use crate::form::Atom;
 use crate::row::Row;
@@ -33,15 +35,23 @@ pub fn find_place(terms: &[(Atom, i128)], atom: &Atom) -> TermPlace
     TermPlace::Before(terms.len())
 }
 
+/// The sum, where it has no more than 127 bits.
+pub fn exact_sum(a: i128, b: i128) -> Result<i128, Memory>
+    ensures { IfOk result (λ s. s ≡ a +ℤ b) }
+{
+    match a.checked_add(b) {
+        Some(sum) => Ok(sum),
+        None => Err(Memory),
+    }
+}
+
 /// Adds `k` times the atom to sorted terms.
-pub fn add_term(
+fn add_term(
     alloc: Global,
     terms: &mut Row<(Atom, i128)>,
     atom: &Atom,
     k: i128,
 ) -> Result<(), Memory>
-    requires room { TermsBelow (2 ^ 126 + 2 ^ 64) (terms_of (map term_tree terms.old)) }
-    requires small { unsigned_abs k < 2 ^ 64 }
     ensures { OnOk result (terms_of (map term_tree terms.new) ≡ insert (atom_tree atom.now) k (terms_of (map term_tree terms.old))) }
 {
     match find_place(terms.as_slice(), atom) {
@@ -68,22 +78,24 @@ fn put_before(
 }
 
 fn more_at(terms: &mut Row<(Atom, i128)>, i: usize, k: i128) -> Result<(), Memory>
-    requires within { i < length terms.old }
-    requires room { TermsBelow (2 ^ 126 + 2 ^ 64) (terms_of (map term_tree terms.old)) }
-    requires small { unsigned_abs k < 2 ^ 64 }
+    requires { i < length terms.old }
     ensures { OnOk result (terms_of (map term_tree terms.new) ≡ joined (take i (map term_tree terms.old)) (more_of k (drop i (map term_tree terms.old)))) }
 {
     let (atom, m) = terms.remove(i);
-    let sum = k + m;
-    if sum != 0 {
-        terms.insert(i, (atom, sum))?;
+    match exact_sum(k, m) {
+        Ok(sum) => {
+            if sum != 0 {
+                terms.insert(i, (atom, sum))?;
+            }
+            Ok(())
+        }
+        Err(Memory) => Err(Memory),
     }
-    Ok(())
 }
 
-fn widened(alloc: Global, terms: &[(Atom, i64)]) -> Result<Row<(Atom, i128)>, Memory>
-    ensures same { IfOk result (λ l. l ≡ terms.now) }
-    ensures below { IfOk result (λ l. TermsBelow (2 ^ 63 + 1) (terms_of (map term_tree l))) }
+/// The same terms, over numbers of 128 bits.
+pub fn widened(alloc: Global, terms: &[(Atom, i64)]) -> Result<Row<(Atom, i128)>, Memory>
+    ensures { IfOk result (λ l. l ≡ terms.now) }
 {
     let mut all = Row::new(alloc);
     for i in 0..terms.len() {
@@ -101,20 +113,18 @@ pub fn product(m: i64, k: i64) -> i128
     (m as i128) * (k as i128)
 }
 
-/// `m` times the terms `added`, added to the terms `to`.
-pub fn sum_of_scaled(
+/// Adds `m` times the terms `added` to sorted terms.
+pub fn add_terms(
     alloc: Global,
     m: i64,
     added: &[(Atom, i64)],
-    to: &[(Atom, i64)],
-) -> Result<Row<(Atom, i128)>, Memory>
-    requires { HasRoom m (terms_of (map term_tree added.now)) }
-    ensures { IfOk result (λ l. terms_of (map term_tree l) ≡ add_scaled m (terms_of (map term_tree added.now)) (terms_of (map term_tree to.now))) }
+    terms: &mut Row<(Atom, i128)>,
+) -> Result<(), Memory>
+    ensures { OnOk result (terms_of (map term_tree terms.new) ≡ add_scaled m (terms_of (map term_tree added.now)) (terms_of (map term_tree terms.old))) }
 {
-    let mut all = widened(alloc, to)?;
     for i in (0..added.len()).rev() {
         let (atom, k) = &added[i];
-        add_term(alloc, &mut all, atom, product(m, *k))?;
+        add_term(alloc, terms, atom, product(m, *k))?;
     }
-    Ok(all)
+    Ok(())
 }

@@ -24,7 +24,7 @@ pub struct Fact {
 
 /// The left form without the right one. That a number of it leaves -2^62 .. 2^62 counts as a want of memory: forms of accesses have
 /// numbers of 32 bits.
-fn difference(alloc: Global, left: &Form, right: &Form) -> Result<Form, Memory>
+pub fn difference(alloc: Global, left: &Form, right: &Form) -> Result<Form, Memory>
     ensures { IfOk result (λ f. form_tree f ≡ minus (form_tree left.now) (form_tree right.now)) }
 {
     match subtract(alloc, left, right)? {

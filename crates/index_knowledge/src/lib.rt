@@ -5,6 +5,6 @@ mod fact;
 mod pair;
 mod path;
 
-pub use fact::{Fact, facts};
+pub use fact::{Fact, difference, differences, facts};
 pub use pair::{Pair, pairs};
 pub use path::{is_prefix, serves};

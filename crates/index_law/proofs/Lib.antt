@@ -1,5 +1,3 @@
-pub mod AtomOrder
-pub mod Worths
 pub mod Nodes
 pub mod Meets
 pub mod GroupKeys

@@ -25,7 +25,7 @@ use Rattle.index_forms.specs.Form.{Atom, read as read_atom, opaque, Form, form, 
 use Rattle.index_forms.specs.Sums.{value, values, plus_scaled, fits_in}
 use Rattle.index_forms.specs.Formed.{Viewed, zero_form, atom_form, FormedAll, opaque_node, node, if_narrow, keep, scaled_if, or_else, linear, negative, formed, formed_all}
 use Rattle.index_law.specs.Worth.{HoldsKnown, AgreesOn, AreIndices}
-use Rattle.index_law.proofs.Worths.{value-plus}
+use Rattle.index_forms.proofs.Worths.{value-plus}
 
 pub times-comm : (k m : ℤ) → k *ℤ m ≡ m *ℤ k
 times-comm k m =

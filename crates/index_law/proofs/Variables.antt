@@ -25,7 +25,7 @@ use Rattle.index_forms.specs.Sums.{value}
 use Rattle.index_forms.specs.Formed.{atom_form}
 use Rattle.index_forms.specs.Loops.{literal_number, signed_number, step_number, base_form, variable_by, variable_form}
 use Rattle.index_law.specs.Variables.{counter_value}
-use Rattle.index_law.proofs.Worths.{value-plus}
+use Rattle.index_forms.proofs.Worths.{value-plus}
 use Rattle.index_law.proofs.Nodes.{times-comm, exact_is, literal_is}
 
 not_ring : (o : Result ℤ IndexTrap) (d : Dual) → of_index o ≡ Ok (Ring d) → ⊥

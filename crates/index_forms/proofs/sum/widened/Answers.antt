@@ -1,10 +1,9 @@
-use Rattle.std.proofs.Common.{◌≡◌, ◌^◌, ◌<◌, ◌∷◌, ◌++◌, [], take, length, get_or, ◌+◌, add-one, subst, sym, ap, ◌∙◌, arith, rules, map, ℤ, unsigned_abs, FitsSigned, to_z, of_z}
-use Rattle.std.proofs.lemmas.Int.{to_z-of_z, fits_signed_from_abs}
+use Rattle.std.proofs.Common.{◌≡◌, ◌<◌, ◌∷◌, ◌++◌, [], take, length, get_or, ◌+◌, add-one, sym, ap, ◌∙◌, arith, rules, ℤ, FitsSigned, to_z, of_z}
+use Rattle.std.proofs.lemmas.Int.{ints, to_z-of_z, fits_signed_from_abs}
 use Rattle.std.proofs.Math.Seq.{take-suc}
 use mir.Syntax.{w64, w128}
-use Rattle.index_forms.specs.Seen.{term_tree, terms_of}
-use Rattle.index_forms.specs.Places.{TermsBelow}
-use Rattle.index_forms.proofs.Bounds.{below-push, fits-below, pair-same, L}
+use Rattle.index_forms.proofs.Ints.{abs-is}
+use Rattle.index_forms.proofs.Added.{pair-same, L}
 use Rattle.index_forms.specs.declared.form.Atom as program
 use Rattle.index_forms.proofs.sum.widened.Goals as goal
 
@@ -13,14 +12,9 @@ loop-i-preserved c =
     let x = c.index-terms-i.result in
     let f : FitsSigned w64 x.1 = search rules in
     let d : to_z w64 (of_z w64 x.1) ≡ x.1 = to_z-of_z w64 x.1 f in
-    let b : unsigned_abs x.1 < 2 ^ 63 + 1 = fits-below x.1 f in
-    let g : to_z w128 (of_z w128 (to_z w64 (of_z w64 x.1))) ≡ x.1 = ap (λ z. to_z w128 (of_z w128 z)) d ∙ to_z-of_z w128 x.1 (fits_signed_from_abs w128 x.1 (omega (arith, b))) in
-    let a : c.in_ok-copy.copy ≡ x.0 = c.in_ok-copy.ensures in
-    let e : c.push.new.self ≡ c.loop-i.all ++ (c.in_ok-copy.copy, to_z w128 (of_z w128 (to_z w64 (of_z w64 x.1)))) ∷ [] = c.in_ok-push.ensures in
-    let p : c.push.new.self ≡ c.loop-i.all ++ x ∷ [] = e ∙ ap (λ (y : program.Atom × ℤ). c.loop-i.all ++ y ∷ []) (pair-same c.in_ok-copy.copy x.0 (to_z w128 (of_z w128 (to_z w64 (of_z w64 x.1)))) x.1 a g) in
+    let g : to_z w128 (of_z w128 (to_z w64 (of_z w64 x.1))) ≡ x.1 = ap (λ z. to_z w128 (of_z w128 z)) d ∙ to_z-of_z w128 x.1 (fits_signed_from_abs w128 x.1 (omega (arith, ints, abs-is x.1, f))) in
+    let p : c.push.new.self ≡ c.loop-i.all ++ x ∷ [] = c.in_ok-push.ensures ∙ ap (λ (y : program.Atom × ℤ). c.loop-i.all ++ y ∷ []) (pair-same c.in_ok-copy.copy x.0 (to_z w128 (of_z w128 (to_z w64 (of_z w64 x.1)))) x.1 c.in_ok-copy.ensures g) in
     let h : c.loop-i.i < length c.args.terms.now = omega arith in
     let t : take (c.loop-i.i + 1) c.args.terms.now ≡ take c.loop-i.i c.args.terms.now ++ get_or c.args.terms.now c.loop-i.i x ∷ [] = rw add-one (take-suc c.args.terms.now c.loop-i.i x h) in
     let o : x ≡ get_or c.args.terms.now c.loop-i.i x = c.index-terms-i.is in
-    let v : c.loop-i.all ≡ take c.loop-i.i c.args.terms.now = c.loop-i.invariant.0 in
-    let Q : L → Type 0 = (λ l. TermsBelow (2 ^ 63 + 1) (terms_of (map term_tree l))) in
-    (p ∙ ap (λ (l : L). l ++ x ∷ []) v ∙ ap (λ (y : program.Atom × ℤ). take c.loop-i.i c.args.terms.now ++ y ∷ []) o ∙ sym t, subst Q (sym p) (below-push (2 ^ 63 + 1) c.loop-i.all x b c.loop-i.invariant.1))
+    p ∙ ap (λ (l : L). l ++ x ∷ []) c.loop-i.invariant ∙ ap (λ (y : program.Atom × ℤ). take c.loop-i.i c.args.terms.now ++ y ∷ []) o ∙ sym t

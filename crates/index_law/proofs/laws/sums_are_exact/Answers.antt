@@ -1,4 +1,4 @@
-use Rattle.index_law.proofs.Worths.{value-plus, value-minus}
+use Rattle.index_forms.proofs.Worths.{value-plus, value-minus}
 use Rattle.index_law.proofs.laws.sums_are_exact.Goals as goal
 
 pub returns-clause-sums : goal.returns-clause-sums

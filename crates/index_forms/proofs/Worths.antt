@@ -5,7 +5,7 @@ use Rattle.std.specs.declared.cmp.Ordering.{Ordering}
 use Rattle.std.specs.declared.cmp.Ordering.TheVariants.{Less, Equal, Greater}
 use Rattle.index_forms.specs.Form.{Atom, Form, form, Terms, no_terms, term, atom_order}
 use Rattle.index_forms.specs.Sums.{total, value, kept, insert, add_scaled, plus_scaled, minus}
-use Rattle.index_law.proofs.AtomOrder.{atom-same}
+use Rattle.index_forms.proofs.AtomOrder.{atom-same}
 use Rattle.index_forms.proofs.Ints.{sum-times, times-sum, times-assoc}
 
 total-kept : (v : Atom → ℤ) (a : Atom) (k : ℤ) (ts : Terms) → total v (kept a k ts) ≡ (k *ℤ v a) +ℤ total v ts
