@@ -1,12 +1,12 @@
 -- Common divisors of coefficients.
-use Rattle.std.proofs.Common.{◌≡◌, ℕ, zero, suc, ◌+◌, ◌<◌, ◌%◌, ◌↔◌, ℤ, unsigned_abs, List, [], ◌∷◌, map, drop, length, get_or, Bool, true, false, not, eqb, IsTrue, rules, refl, sym, ap, ◌∙◌, subst, arith}
+use Rattle.std.proofs.Common.{◌≡◌, ℕ, zero, suc, ◌<◌, ◌%◌, ◌↔◌, ℤ, unsigned_abs, List, [], ◌∷◌, map, drop, length, get_or, Bool, true, false, not, eqb, IsTrue, rules, refl, sym, subst, arith}
 use Rattle.std.specs.Int.{IsGcd}
 use Prim.Native.Nat.{◌∣◌}
 use Rattle.std.proofs.lemmas.Bool.Decides.{nat_tests}
 use Rattle.std.proofs.lemmas.Nat.Gcd.{dvd-zero, dvd_trans, dvd_antisymm, dvd_of_mod-eq-zero, mod-eq-zero_of_dvd}
 use Rattle.std.proofs.Math.Nat.{eq-zero_of_zero-dvd}
 use Rattle.index_forms.specs.declared.form.Atom as program
-use Rattle.index_forms.specs.Form.{Atom, Form, form, Terms, no_terms, term}
+use Rattle.index_forms.specs.Form.{Atom, form, Terms, no_terms, term}
 use Rattle.index_forms.specs.Seen.{terms_of, term_tree}
 use Rattle.certificate_rules.specs.Accepted.{DividesAll, IsGcdOf, HasResidue}
 

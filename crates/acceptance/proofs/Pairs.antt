@@ -1,11 +1,11 @@
 -- Two terms that are a multiple of one atom without another one.
-use Rattle.std.proofs.Common.{◌≡◌, ◌≢◌, ℕ, suc, ◌<◌, Bool, true, false, not, ◌&&◌, if◌then◌else◌, ℤ, ◌+ℤ◌, List, [], ◌∷◌, map, length, get_or, Option, Some, None, refl, sym, ap, ◌∙◌, subst, arith}
+use Rattle.std.proofs.Common.{◌≡◌, ◌≢◌, ◌<◌, Bool, true, false, not, ◌&&◌, if◌then◌else◌, ℤ, ◌+ℤ◌, List, [], ◌∷◌, map, length, get_or, Option, Some, None, refl, sym, ap, ◌∙◌, arith}
 use Rattle.index_forms.specs.declared.form.Atom as program
 use Rattle.index_forms.specs.declared.form.Form as program_form
 use Rattle.index_forms.specs.declared.form.Side.TheVariants.{One, Two}
 use Rattle.index_forms.specs.Form.{Atom, Terms, no_terms, term}
 use Rattle.index_forms.specs.Seen.{atom_tree, form_tree, term_tree, terms_of}
-use Rattle.certificate_rules.specs.Tests.{is_zero, is_iter, is_iter2, followed, apart_of, has_none, is_last, iterations_of, second_iterations_of, is_distinct, is_second_distinct}
+use Rattle.certificate_rules.specs.Tests.{is_zero, is_iter, is_iter2, apart_of, is_last, iterations_of, second_iterations_of, is_distinct, is_second_distinct}
 use Rattle.acceptance.specs.Pairs.{apart_test}
 use Rattle.acceptance.proofs.Seens.{form-seen}
 
@@ -67,3 +67,20 @@ pub second-seen : (f : program_form.Form) (ts : L) (r z : Bool) → z ≡ is_zer
 second-seen f ts r z e t s h =
     h ∙ ap (λ (us : L). is_last (second_iterations_of (terms_of (map term_tree us)))) s
     ∙ ap (λ (b : Bool). b && is_last (second_iterations_of (terms_of (map term_tree f.terms)))) (sym (sym e ∙ t)) ∙ ap is_second_distinct (sym (form-seen f))
+
+-- ---- fewer than two terms
+
+none-either : {A : Type 0} (b : Bool) → ◌≡◌ {A = Option A} None (if b then None else None)
+none-either true = refl
+none-either false = refl
+
+apart-short : (first second : Atom → Bool) (ts : L) → length ts < 2 → ◌≡◌ {A = Option (ℤ × Terms)} None (apart_of first second (terms_of (map term_tree ts)))
+apart-short first second [] h = refl
+apart-short first second (x ∷ []) h = none-either (first (atom_tree x.0) && not (is_zero x.1))
+apart-short first second (x ∷ y ∷ ts) h = absurd (omega arith)
+
+pub iterations_short : (ts : L) → length ts < 2 → ◌≡◌ {A = Option (ℤ × Terms)} None (iterations_of (terms_of (map term_tree ts)))
+iterations_short ts h = apart-short (is_iter One) (is_iter Two) ts h
+
+pub second_short : (ts : L) → length ts < 2 → ◌≡◌ {A = Option (ℤ × Terms)} None (second_iterations_of (terms_of (map term_tree ts)))
+second_short ts h = apart-short (is_iter2 One) (is_iter2 Two) ts h

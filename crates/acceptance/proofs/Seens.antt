@@ -1,5 +1,5 @@
 -- A form, seen.
-use Rattle.std.proofs.Common.{◌≡◌, map, refl, rules}
+use Rattle.std.proofs.Common.{◌≡◌, map}
 use Rattle.index_forms.specs.declared.form.Form as program_form
 use Rattle.index_forms.specs.declared.form.Form.{fold_out-Form}
 use Rattle.index_forms.specs.Form.{Atom, Form, form}

@@ -1,10 +1,10 @@
 //! Lines that show two iterations to be one.
 
-ghost use Rattle.std.specs.Prelude.{◌≡◌, map, ◌+ℤ◌};
+ghost use Rattle.std.specs.Prelude.{◌≡◌, map, option_map, ◌+ℤ◌};
 ghost use Rattle.index_forms.specs.declared.form.Side.TheVariants.{One, Two};
 ghost use Rattle.index_forms.specs.Seen.{atom_tree, form_tree, term_tree, terms_of};
 ghost use Rattle.certificate_rules.specs.Tests.{is_zero as is_zero_lem, same_side, is_iter as is_iter_lem, is_iter2 as is_iter2_lem, is_last, iterations_of, second_iterations_of, is_distinct, is_second_distinct};
-ghost use Rattle.acceptance.specs.Pairs.{apart_test};
+ghost use Rattle.acceptance.specs.Pairs.{apart_test, apart_told};
 
 use index_forms::{Atom, Form, Side};
 
@@ -63,6 +63,44 @@ fn is_apart(first: bool, second: bool, a: i64, b: i64) -> bool
         return false;
     }
     second && is_zero_sum(a, b)
+}
+
+/// Of terms that begin with a multiple of the iteration's number on side One without that on side Two: the multiplier, and the terms behind.
+#[tactic(auto, using(crate::proofs::Pairs::iterations_short))]
+pub fn iterations(terms: &[(Atom, i64)]) -> Option<(i64, &[(Atom, i64)])>
+    ensures { option_map apart_told result ≡ iterations_of (terms_of (map term_tree terms.now)) }
+{
+    match terms {
+        [first, second, rest @ ..] => {
+            let (x, a) = first;
+            let (y, b) = second;
+            if is_apart(is_iter(Side::One, x), is_iter(Side::Two, y), *a, *b) {
+                Some((*a, rest))
+            } else {
+                None
+            }
+        }
+        _ => None,
+    }
+}
+
+/// The same for the inner one of two collapsed loops.
+#[tactic(auto, using(crate::proofs::Pairs::second_short))]
+pub fn second_iterations(terms: &[(Atom, i64)]) -> Option<(i64, &[(Atom, i64)])>
+    ensures { option_map apart_told result ≡ second_iterations_of (terms_of (map term_tree terms.now)) }
+{
+    match terms {
+        [first, second, rest @ ..] => {
+            let (x, a) = first;
+            let (y, b) = second;
+            if is_apart(is_iter2(Side::One, x), is_iter2(Side::Two, y), *a, *b) {
+                Some((*a, rest))
+            } else {
+                None
+            }
+        }
+        _ => None,
+    }
 }
 
 /// Whether these are a multiple of the iteration's number on side One without that on side Two, and nothing else.

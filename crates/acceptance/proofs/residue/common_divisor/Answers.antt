@@ -1,4 +1,4 @@
-use Rattle.std.proofs.Common.{◌≡◌, ℕ, suc, ◌-◌, sym, ap, ◌∙◌, rules, FitsSigned, to_z, of_z, subst, arith, map, drop, unsigned_abs}
+use Rattle.std.proofs.Common.{◌≡◌, ℕ, suc, ◌-◌, sym, ap, ◌∙◌, rules, FitsSigned, subst, arith, map, drop, unsigned_abs}
 use Rattle.std.specs.Int.{IsGcd}
 use mir.Syntax.{w64}
 use Rattle.std.proofs.lemmas.Int.{to_z-of_z}

@@ -1,9 +1,9 @@
-use Rattle.std.proofs.Common.{◌≡◌, sym, ap, ◌∙◌, rules, arith, map, unsigned_abs, FitsSigned, to_z, of_z, IsTrue, ◌↔◌}
+use Rattle.std.proofs.Common.{◌≡◌, ap, ◌∙◌, rules, map, unsigned_abs, FitsSigned}
 use Rattle.std.proofs.lemmas.Int.{to_z-of_z}
 use mir.Syntax.{w64}
 use Rattle.index_forms.specs.Form.{form}
 use Rattle.index_forms.specs.Seen.{form_tree, term_tree, terms_of}
-use Rattle.certificate_rules.specs.Accepted.{IsGcdOf, HasResidue}
+use Rattle.certificate_rules.specs.Accepted.{IsGcdOf}
 use Rattle.acceptance.proofs.Seens.{form-seen}
 use Rattle.acceptance.proofs.Divisors.{residue-test, residue-zero}
 use Rattle.acceptance.proofs.residue.has_residue.Goals as goal
