@@ -1,0 +1,2 @@
+pub mod PairReads
+pub mod FirstFlaws
