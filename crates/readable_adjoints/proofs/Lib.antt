@@ -1,0 +1,11 @@
+pub mod Every
+pub mod Times
+pub mod Named
+pub mod Clauses
+pub mod Terms
+pub mod Lines
+pub mod Fit
+pub mod Loops
+pub mod Forward
+pub mod Reverse
+pub mod Whole
