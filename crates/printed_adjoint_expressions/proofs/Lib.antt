@@ -1,0 +1,4 @@
+pub mod AdjointFolded
+pub mod AdjointRules
+pub mod ReadAdjoints
+pub mod AdjointUpdates
