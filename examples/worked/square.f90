@@ -1,0 +1,5 @@
+subroutine square(x, y)
+  !
+  integer(kind=8) :: x, y
+  y = x*x
+end subroutine square
