@@ -27,30 +27,27 @@ pub fn aexpr(
         AExpr::Lit { value, kind } => literal(alloc, line, blank, *value, *kind),
         AExpr::Get(found) => place(alloc, line, blank, found),
         AExpr::Neg(inner) => {
-            sign(alloc, line, operand, blank)?;
-            right_side(alloc, line, operand, inner.get())
+            sign(alloc, line, operand, blank).and(right_side(alloc, line, operand, inner.get()))
         }
-        AExpr::Bin { op, left, right } => {
-            left_side(alloc, line, operand, blank, left.get())?;
-            joined(alloc, line, operator_text(*op))?;
-            right_side(alloc, line, operand, right.get())
-        }
-        AExpr::Pow { base, exponent } => {
-            left_side(alloc, line, operand, blank, base.get())?;
-            raised(alloc, line, operand, *exponent)
-        }
-        AExpr::Call { fun, args } => {
-            word(alloc, line, blank, function_text(*fun))?;
-            abracketed(alloc, line, args.as_slice())
-        }
+        AExpr::Bin { op, left, right } => left_side(alloc, line, operand, blank, left.get())
+            .and(joined(alloc, line, operator_text(*op)))
+            .and(right_side(alloc, line, operand, right.get())),
+        AExpr::Pow { base, exponent } => left_side(alloc, line, operand, blank, base.get()).and(
+            raised(alloc, line, operand, *exponent),
+        ),
+        AExpr::Call { fun, args } => word(alloc, line, blank, function_text(*fun)).and(abracketed(
+            alloc,
+            line,
+            args.as_slice(),
+        )),
         AExpr::Merge {
             first,
             second,
             test,
         } => {
-            merged(alloc, line, blank, first.get())?;
-            otherwise(alloc, line, second.get())?;
-            tested(alloc, line, test)
+            merged(alloc, line, blank, first.get())
+                .and(otherwise(alloc, line, second.get()))
+                .and(tested(alloc, line, test))
         }
     }
 }
@@ -67,9 +64,7 @@ fn left_side(
     ensures { OnOk result (line.new ≡ line.old
         ++ (spec.opening operand blank ++ spec.adjoint_words true (spec.inside operand blank) (aexpr_tree left.now))) }
 {
-    open(alloc, line, operand, blank)?;
-    aexpr(alloc, line, true, blank && !operand, left)?;
-    Ok(())
+    open(alloc, line, operand, blank).and(aexpr(alloc, line, true, blank && !operand, left))
 }
 
 /// Adds its right operand.
@@ -82,9 +77,7 @@ fn right_side(
 ) -> Result<(), Memory>
     ensures { OnOk result (line.new ≡ line.old ++ (spec.adjoint_words true false (aexpr_tree right.now) ++ spec.closing operand)) }
 {
-    aexpr(alloc, line, true, false, right)?;
-    close(alloc, line, operand)?;
-    Ok(())
+    aexpr(alloc, line, true, false, right).and(close(alloc, line, operand))
 }
 
 /// Adds the beginning of a `merge` with its first argument.
@@ -92,10 +85,9 @@ fn right_side(
 fn merged(alloc: Global, line: &mut Items<Spaced>, blank: bool, first: &AExpr) -> Result<(), Memory>
     ensures { OnOk result (line.new ≡ line.old ++ spec.merged_words blank (aexpr_tree first.now)) }
 {
-    word(alloc, line, blank, b"merge")?;
-    joined(alloc, line, b"(")?;
-    aexpr(alloc, line, false, false, first)?;
-    Ok(())
+    word(alloc, line, blank, b"merge")
+        .and(joined(alloc, line, b"("))
+        .and(aexpr(alloc, line, false, false, first))
 }
 
 /// Adds the second argument of a `merge`.
@@ -103,19 +95,16 @@ fn merged(alloc: Global, line: &mut Items<Spaced>, blank: bool, first: &AExpr) -
 fn otherwise(alloc: Global, line: &mut Items<Spaced>, second: &AExpr) -> Result<(), Memory>
     ensures { OnOk result (line.new ≡ line.old ++ spec.otherwise_words (aexpr_tree second.now)) }
 {
-    joined(alloc, line, b",")?;
-    aexpr(alloc, line, false, true, second)?;
-    Ok(())
+    joined(alloc, line, b",").and(aexpr(alloc, line, false, true, second))
 }
 
 /// Adds its condition and its end.
 fn tested(alloc: Global, line: &mut Items<Spaced>, test: &Cond) -> Result<(), Memory>
     ensures { OnOk result (line.new ≡ line.old ++ spec.tested_words (cond_tree test.now)) }
 {
-    joined(alloc, line, b",")?;
-    cond(alloc, line, false, true, test)?;
-    joined(alloc, line, b")")?;
-    Ok(())
+    joined(alloc, line, b",")
+        .and(cond(alloc, line, false, true, test))
+        .and(joined(alloc, line, b")"))
 }
 
 /// Adds expressions in brackets.
@@ -123,10 +112,9 @@ fn tested(alloc: Global, line: &mut Items<Spaced>, test: &Cond) -> Result<(), Me
 fn abracketed(alloc: Global, line: &mut Items<Spaced>, trees: &[AExpr]) -> Result<(), Memory>
     ensures { OnOk result (line.new ≡ line.old ++ spec.bracketed_adjoints (aexpr_trees trees.now)) }
 {
-    joined(alloc, line, b"(")?;
-    aexprs(alloc, line, trees)?;
-    joined(alloc, line, b")")?;
-    Ok(())
+    joined(alloc, line, b"(")
+        .and(aexprs(alloc, line, trees))
+        .and(joined(alloc, line, b")"))
 }
 
 #[cycle(adjoint_words)]
@@ -135,8 +123,7 @@ fn aexprs(alloc: Global, line: &mut Items<Spaced>, trees: &[AExpr]) -> Result<()
 {
     let mut later = false;
     for tree in trees {
-        comma(alloc, line, later)?;
-        aexpr(alloc, line, false, later, tree)?;
+        comma(alloc, line, later).and(aexpr(alloc, line, false, later, tree))?;
         later = true;
     }
     Ok(())
@@ -158,9 +145,9 @@ pub fn asum(
             left,
             right,
         } => {
-            asum(alloc, line, true, blank, left.get())?;
-            joined(alloc, line, b"+")?;
-            aexpr(alloc, line, true, false, right.get())
+            asum(alloc, line, true, blank, left.get())
+                .and(joined(alloc, line, b"+"))
+                .and(aexpr(alloc, line, true, false, right.get()))
         }
         _ => aexpr(alloc, line, operand, blank, tree),
     }

@@ -37,8 +37,7 @@ fn assign_words(
 {
     place(alloc, line, false, target)?;
     apart(alloc, line, b"=")?;
-    value(alloc, line, atomic, assigned)?;
-    Ok(())
+    value(alloc, line, atomic, assigned)
 }
 
 fn assign_row(
@@ -53,9 +52,11 @@ fn assign_row(
         ++ rows_text (spec.adjoint_assign_row margin atomic (place_tree target.now) (aexpr_tree value.now) ∷ [])) }
 {
     let mut line = Items::new(alloc);
-    assign_words(alloc, &mut line, atomic, target, value)?;
-    statement_row(text, margin, line.as_slice())?;
-    Ok(())
+    assign_words(alloc, &mut line, atomic, target, value).and(statement_row(
+        text,
+        margin,
+        line.as_slice(),
+    ))
 }
 
 fn assign(

@@ -18,14 +18,12 @@ fn factor(
     ensures { OnOk result (line.new ≡ line.old ++ spec.factor_words blank factor.now) }
 {
     match factor {
-        Factor::Lit(value) => plain_number(alloc, line, blank, *value)?,
+        Factor::Lit(value) => plain_number(alloc, line, blank, *value),
         Factor::Minus(value) => {
-            word(alloc, line, blank, b"-")?;
-            plain_number(alloc, line, false, *value)?;
+            word(alloc, line, blank, b"-").and(plain_number(alloc, line, false, *value))
         }
-        Factor::Scalar(name) => word(alloc, line, blank, name.bytes())?,
+        Factor::Scalar(name) => word(alloc, line, blank, name.bytes()),
     }
-    Ok(())
 }
 
 fn term(alloc: Global, line: &mut Items<Spaced>, blank: bool, term: &Term) -> Result<(), Memory>
@@ -33,8 +31,7 @@ fn term(alloc: Global, line: &mut Items<Spaced>, blank: bool, term: &Term) -> Re
 {
     factor(alloc, line, blank, &term.first)?;
     if let Some(second) = &term.second {
-        joined(alloc, line, b"*")?;
-        factor(alloc, line, false, second)?;
+        return joined(alloc, line, b"*").and(factor(alloc, line, false, second));
     }
     Ok(())
 }
@@ -42,33 +39,29 @@ fn term(alloc: Global, line: &mut Items<Spaced>, blank: bool, term: &Term) -> Re
 fn rest(alloc: Global, line: &mut Items<Spaced>, rest: &Option<(Sign, Term)>) -> Result<(), Memory>
     ensures { OnOk result (line.new ≡ line.old ++ spec.rest_words rest.now) }
 {
-    if let Some((sign, second)) = rest {
-        joined(alloc, line, sign_text(*sign))?;
-        term(alloc, line, false, second)?;
+    match rest {
+        None => Ok(()),
+        Some((sign, second)) => {
+            joined(alloc, line, sign_text(*sign)).and(term(alloc, line, false, second))
+        }
     }
-    Ok(())
 }
 
 fn bound(alloc: Global, line: &mut Items<Spaced>, blank: bool, bound: &Bound) -> Result<(), Memory>
     ensures { OnOk result (line.new ≡ line.old ++ spec.bound_words blank bound.now) }
 {
-    term(alloc, line, blank, &bound.first)?;
-    rest(alloc, line, &bound.rest)?;
-    Ok(())
+    term(alloc, line, blank, &bound.first).and(rest(alloc, line, &bound.rest))
 }
 
 fn range(alloc: Global, line: &mut Items<Spaced>, blank: bool, dim: &Dim) -> Result<(), Memory>
     ensures { OnOk result (line.new ≡ line.old ++ spec.range_words blank dim.now.lower dim.now.upper) }
 {
     match &dim.lower {
-        None => bound(alloc, line, blank, &dim.upper)?,
-        Some(lower) => {
-            bound(alloc, line, blank, lower)?;
-            joined(alloc, line, b":")?;
-            bound(alloc, line, false, &dim.upper)?;
-        }
+        None => bound(alloc, line, blank, &dim.upper),
+        Some(lower) => bound(alloc, line, blank, lower)
+            .and(joined(alloc, line, b":"))
+            .and(bound(alloc, line, false, &dim.upper)),
     }
-    Ok(())
 }
 
 fn dims(alloc: Global, line: &mut Items<Spaced>, all: &[Dim]) -> Result<(), Memory>
@@ -76,8 +69,7 @@ fn dims(alloc: Global, line: &mut Items<Spaced>, all: &[Dim]) -> Result<(), Memo
 {
     let mut later = false;
     for dim in all {
-        comma(alloc, line, later)?;
-        range(alloc, line, later, dim)?;
+        comma(alloc, line, later).and(range(alloc, line, later, dim))?;
         later = true;
     }
     Ok(())
@@ -89,10 +81,9 @@ fn shape(alloc: Global, line: &mut Items<Spaced>, all: &[Dim]) -> Result<(), Mem
     if all.is_empty() {
         return Ok(());
     }
-    joined(alloc, line, b"(")?;
-    dims(alloc, line, all)?;
-    joined(alloc, line, b")")?;
-    Ok(())
+    joined(alloc, line, b"(")
+        .and(dims(alloc, line, all))
+        .and(joined(alloc, line, b")"))
 }
 
 fn intent(alloc: Global, line: &mut Items<Spaced>, intent: Intent) -> Result<(), Memory>
@@ -101,34 +92,31 @@ fn intent(alloc: Global, line: &mut Items<Spaced>, intent: Intent) -> Result<(),
     if let Intent::Unsaid = intent {
         return Ok(());
     }
-    joined(alloc, line, b",")?;
-    apart(alloc, line, b"intent")?;
-    joined(alloc, line, b"(")?;
-    joined(alloc, line, intent_text(intent))?;
-    joined(alloc, line, b")")?;
-    Ok(())
+    joined(alloc, line, b",")
+        .and(apart(alloc, line, b"intent"))
+        .and(joined(alloc, line, b"("))
+        .and(joined(alloc, line, intent_text(intent)))
+        .and(joined(alloc, line, b")"))
 }
 
 fn kind(alloc: Global, line: &mut Items<Spaced>, bytes: u32) -> Result<(), Memory>
     ensures { OnOk result (line.new ≡ line.old ++ spec.kind_words bytes) }
 {
-    joined(alloc, line, b"integer")?;
-    joined(alloc, line, b"(")?;
-    joined(alloc, line, b"kind")?;
-    joined(alloc, line, b"=")?;
-    plain_number(alloc, line, false, bytes)?;
-    joined(alloc, line, b")")?;
-    Ok(())
+    joined(alloc, line, b"integer")
+        .and(joined(alloc, line, b"("))
+        .and(joined(alloc, line, b"kind"))
+        .and(joined(alloc, line, b"="))
+        .and(plain_number(alloc, line, false, bytes))
+        .and(joined(alloc, line, b")"))
 }
 
 /// Adds a declaration.
 pub fn decl(alloc: Global, line: &mut Items<Spaced>, decl: &Decl) -> Result<(), Memory>
     ensures { OnOk result (line.new ≡ line.old ++ spec.decl_words decl.now) }
 {
-    kind(alloc, line, decl.bytes)?;
-    intent(alloc, line, decl.intent)?;
-    apart(alloc, line, b"::")?;
-    apart(alloc, line, decl.name.bytes())?;
-    shape(alloc, line, decl.dims.as_slice())?;
-    Ok(())
+    kind(alloc, line, decl.bytes)
+        .and(intent(alloc, line, decl.intent))
+        .and(apart(alloc, line, b"::"))
+        .and(apart(alloc, line, decl.name.bytes()))
+        .and(shape(alloc, line, decl.dims.as_slice()))
 }

@@ -12,13 +12,13 @@ use std::alloc::Global;
 fn default(alloc: Global, line: &mut Items<Spaced>, none: bool) -> Result<(), Memory>
     ensures { OnOk result (line.new ≡ line.old ++ spec.default_words none) }
 {
-    if none {
-        apart(alloc, line, b"default")?;
-        joined(alloc, line, b"(")?;
-        joined(alloc, line, b"none")?;
-        joined(alloc, line, b")")?;
+    if !none {
+        return Ok(());
     }
-    Ok(())
+    apart(alloc, line, b"default")
+        .and(joined(alloc, line, b"("))
+        .and(joined(alloc, line, b"none"))
+        .and(joined(alloc, line, b")"))
 }
 
 fn list(
@@ -32,9 +32,7 @@ fn list(
     if names.is_empty() {
         return Ok(());
     }
-    apart(alloc, line, clause)?;
-    bracketed_names(alloc, line, names)?;
-    Ok(())
+    apart(alloc, line, clause).and(bracketed_names(alloc, line, names))
 }
 
 fn plus(alloc: Global, line: &mut Items<Spaced>) -> Result<(), Memory>
@@ -53,10 +51,9 @@ fn reduction(alloc: Global, line: &mut Items<Spaced>, list: &[Name]) -> Result<(
     if list.is_empty() {
         return Ok(());
     }
-    plus(alloc, line)?;
-    names(alloc, line, true, list)?;
-    joined(alloc, line, b")")?;
-    Ok(())
+    plus(alloc, line)
+        .and(names(alloc, line, true, list))
+        .and(joined(alloc, line, b")"))
 }
 
 fn collapse(alloc: Global, line: &mut Items<Spaced>, loops: u32) -> Result<(), Memory>
@@ -65,21 +62,19 @@ fn collapse(alloc: Global, line: &mut Items<Spaced>, loops: u32) -> Result<(), M
     if loops == 0 {
         return Ok(());
     }
-    apart(alloc, line, b"collapse")?;
-    joined(alloc, line, b"(")?;
-    plain_number(alloc, line, false, loops)?;
-    joined(alloc, line, b")")?;
-    Ok(())
+    apart(alloc, line, b"collapse")
+        .and(joined(alloc, line, b"("))
+        .and(plain_number(alloc, line, false, loops))
+        .and(joined(alloc, line, b")"))
 }
 
 fn chunk(alloc: Global, line: &mut Items<Spaced>, chunk: Option<u32>) -> Result<(), Memory>
     ensures { OnOk result (line.new ≡ line.old ++ spec.chunk_words chunk) }
 {
-    if let Some(size) = chunk {
-        joined(alloc, line, b",")?;
-        plain_number(alloc, line, true, size)?;
+    match chunk {
+        None => Ok(()),
+        Some(size) => joined(alloc, line, b",").and(plain_number(alloc, line, true, size)),
     }
-    Ok(())
 }
 
 fn schedule(
@@ -89,14 +84,14 @@ fn schedule(
 ) -> Result<(), Memory>
     ensures { OnOk result (line.new ≡ line.old ++ spec.schedule_words schedule) }
 {
-    if let Some((kind, size)) = schedule {
-        apart(alloc, line, b"schedule")?;
-        joined(alloc, line, b"(")?;
-        joined(alloc, line, schedule_text(kind))?;
-        chunk(alloc, line, size)?;
-        joined(alloc, line, b")")?;
+    match schedule {
+        None => Ok(()),
+        Some((kind, size)) => apart(alloc, line, b"schedule")
+            .and(joined(alloc, line, b"("))
+            .and(joined(alloc, line, schedule_text(kind)))
+            .and(chunk(alloc, line, size))
+            .and(joined(alloc, line, b")")),
     }
-    Ok(())
 }
 
 /// Adds the clauses of a directive, in their order.

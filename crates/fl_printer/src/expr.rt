@@ -1,6 +1,6 @@
 //! Expressions and conditions as tokens.
 
-ghost use Rattle.std.specs.Prelude.{◌≡◌, ◌++◌, ◌∷◌, [], OnOk, false, true};
+ghost use Rattle.std.specs.Prelude.{◌≡◌, ◌++◌, ◌∷◌, [], OnOk, codes, false, true};
 ghost use Rattle.fl_ast.specs.Tree.{expr_tree, place_tree, expr_trees, cond_tree};
 ghost use Rattle.fl_printer.specs.Words as spec;
 
@@ -32,9 +32,7 @@ pub fn sign(
 ) -> Result<(), Memory>
     ensures { OnOk result (line.new ≡ line.old ++ spec.sign_words operand blank) }
 {
-    open(alloc, line, operand, blank)?;
-    word(alloc, line, blank && !operand, b"-")?;
-    Ok(())
+    open(alloc, line, operand, blank).and(word(alloc, line, blank && !operand, b"-"))
 }
 
 /// Adds an exponent.
@@ -46,10 +44,9 @@ pub fn raised(
 ) -> Result<(), Memory>
     ensures { OnOk result (line.new ≡ line.old ++ spec.raised_words operand exponent) }
 {
-    joined(alloc, line, b"**")?;
-    plain_number(alloc, line, false, exponent)?;
-    close(alloc, line, operand)?;
-    Ok(())
+    joined(alloc, line, b"**")
+        .and(plain_number(alloc, line, false, exponent))
+        .and(close(alloc, line, operand))
 }
 
 /// Adds an expression, as an operand or whole.
@@ -67,22 +64,19 @@ pub fn expr(
         Expr::Lit { value, kind } => literal(alloc, line, blank, *value, *kind),
         Expr::Get(found) => place(alloc, line, blank, found),
         Expr::Neg(inner) => {
-            sign(alloc, line, operand, blank)?;
-            right_side(alloc, line, operand, inner.get())
+            sign(alloc, line, operand, blank).and(right_side(alloc, line, operand, inner.get()))
         }
-        Expr::Bin { op, left, right } => {
-            left_side(alloc, line, operand, blank, left.get())?;
-            joined(alloc, line, operator_text(*op))?;
-            right_side(alloc, line, operand, right.get())
-        }
-        Expr::Pow { base, exponent } => {
-            left_side(alloc, line, operand, blank, base.get())?;
-            raised(alloc, line, operand, *exponent)
-        }
-        Expr::Call { fun, args } => {
-            word(alloc, line, blank, function_text(*fun))?;
-            bracketed(alloc, line, args.as_slice())
-        }
+        Expr::Bin { op, left, right } => left_side(alloc, line, operand, blank, left.get())
+            .and(joined(alloc, line, operator_text(*op)))
+            .and(right_side(alloc, line, operand, right.get())),
+        Expr::Pow { base, exponent } => left_side(alloc, line, operand, blank, base.get()).and(
+            raised(alloc, line, operand, *exponent),
+        ),
+        Expr::Call { fun, args } => word(alloc, line, blank, function_text(*fun)).and(bracketed(
+            alloc,
+            line,
+            args.as_slice(),
+        )),
     }
 }
 
@@ -98,9 +92,7 @@ fn left_side(
     ensures { OnOk result (line.new ≡ line.old
         ++ (spec.opening operand blank ++ spec.expression_words true (spec.inside operand blank) (expr_tree left.now))) }
 {
-    open(alloc, line, operand, blank)?;
-    expr(alloc, line, true, blank && !operand, left)?;
-    Ok(())
+    open(alloc, line, operand, blank).and(expr(alloc, line, true, blank && !operand, left))
 }
 
 /// Adds its right operand.
@@ -113,9 +105,7 @@ fn right_side(
 ) -> Result<(), Memory>
     ensures { OnOk result (line.new ≡ line.old ++ (spec.expression_words true false (expr_tree right.now) ++ spec.closing operand)) }
 {
-    expr(alloc, line, true, false, right)?;
-    close(alloc, line, operand)?;
-    Ok(())
+    expr(alloc, line, true, false, right).and(close(alloc, line, operand))
 }
 
 /// Adds a place.
@@ -128,9 +118,11 @@ pub fn place(
 ) -> Result<(), Memory>
     ensures { OnOk result (line.new ≡ line.old ++ spec.place_words blank (place_tree place.now)) }
 {
-    word(alloc, line, blank, place.name.bytes())?;
-    subscripts(alloc, line, place.subscripts.as_slice())?;
-    Ok(())
+    word(alloc, line, blank, place.name.bytes()).and(subscripts(
+        alloc,
+        line,
+        place.subscripts.as_slice(),
+    ))
 }
 
 /// Adds subscripts; a scalar has none.
@@ -152,8 +144,7 @@ fn exprs(alloc: Global, line: &mut Items<Spaced>, trees: &[Expr]) -> Result<(), 
 {
     let mut later = false;
     for tree in trees {
-        comma(alloc, line, later)?;
-        expr(alloc, line, false, later, tree)?;
+        comma(alloc, line, later).and(expr(alloc, line, false, later, tree))?;
         later = true;
     }
     Ok(())
@@ -164,10 +155,9 @@ fn exprs(alloc: Global, line: &mut Items<Spaced>, trees: &[Expr]) -> Result<(), 
 fn bracketed(alloc: Global, line: &mut Items<Spaced>, trees: &[Expr]) -> Result<(), Memory>
     ensures { OnOk result (line.new ≡ line.old ++ spec.bracketed_words (expr_trees trees.now)) }
 {
-    joined(alloc, line, b"(")?;
-    exprs(alloc, line, trees)?;
-    joined(alloc, line, b")")?;
-    Ok(())
+    joined(alloc, line, b"(")
+        .and(exprs(alloc, line, trees))
+        .and(joined(alloc, line, b")"))
 }
 
 /// Adds the value of an atomic update.
@@ -186,15 +176,36 @@ pub fn sum(
             left,
             right,
         } => {
-            sum(alloc, line, true, blank, left.get())?;
-            joined(alloc, line, b"+")?;
-            expr(alloc, line, true, false, right.get())
+            sum(alloc, line, true, blank, left.get())
+                .and(joined(alloc, line, b"+"))
+                .and(expr(alloc, line, true, false, right.get()))
         }
         _ => expr(alloc, line, operand, blank, tree),
     }
 }
 
+/// Adds the right operand of a relation.
+fn compared(
+    alloc: Global,
+    line: &mut Items<Spaced>,
+    operand: bool,
+    right: &Expr,
+) -> Result<(), Memory>
+    ensures { OnOk result (line.new ≡ line.old ++ (spec.expression_words true true (expr_tree right.now) ++ spec.closing operand)) }
+{
+    expr(alloc, line, true, true, right).and(close(alloc, line, operand))
+}
+
+/// Adds the word of a denial.
+fn denial(alloc: Global, line: &mut Items<Spaced>, operand: bool, blank: bool) -> Result<(), Memory>
+    ensures { OnOk result (line.new ≡ line.old
+        ++ (spec.opening operand blank ++ spec.spaced (spec.inside operand blank) (codes ".not.") ∷ [])) }
+{
+    open(alloc, line, operand, blank).and(word(alloc, line, blank && !operand, b".not."))
+}
+
 /// Adds a condition.
+#[cycle(cond_words)]
 pub fn cond(
     alloc: Global,
     line: &mut Items<Spaced>,
@@ -204,28 +215,49 @@ pub fn cond(
 ) -> Result<(), Memory>
     ensures { OnOk result (line.new ≡ line.old ++ spec.condition_words operand blank (cond_tree tree.now)) }
 {
-    open(alloc, line, operand, blank)?;
-    let inside = blank && !operand;
     match tree {
-        Cond::Rel { op, left, right } => {
-            expr(alloc, line, true, inside, left)?;
-            apart(alloc, line, relation_text(*op))?;
-            expr(alloc, line, true, true, right)?;
-        }
-        Cond::Not(inner) => {
-            word(alloc, line, inside, b".not.")?;
-            cond(alloc, line, true, true, inner.get())?;
-        }
-        Cond::And(left, right) => {
-            cond(alloc, line, true, inside, left.get())?;
-            apart(alloc, line, b".and.")?;
-            cond(alloc, line, true, true, right.get())?;
-        }
-        Cond::Or(left, right) => {
-            cond(alloc, line, true, inside, left.get())?;
-            apart(alloc, line, b".or.")?;
-            cond(alloc, line, true, true, right.get())?;
-        }
+        Cond::Rel { op, left, right } => left_side(alloc, line, operand, blank, left)
+            .and(apart(alloc, line, relation_text(*op)))
+            .and(compared(alloc, line, operand, right)),
+        Cond::Not(inner) => denial(alloc, line, operand, blank).and(right_cond(
+            alloc,
+            line,
+            operand,
+            inner.get(),
+        )),
+        Cond::And(left, right) => left_cond(alloc, line, operand, blank, left.get())
+            .and(apart(alloc, line, b".and."))
+            .and(right_cond(alloc, line, operand, right.get())),
+        Cond::Or(left, right) => left_cond(alloc, line, operand, blank, left.get())
+            .and(apart(alloc, line, b".or."))
+            .and(right_cond(alloc, line, operand, right.get())),
     }
-    close(alloc, line, operand)
+}
+
+/// Adds the left operand of a conjunction or a disjunction.
+#[cycle(cond_words)]
+fn left_cond(
+    alloc: Global,
+    line: &mut Items<Spaced>,
+    operand: bool,
+    blank: bool,
+    left: &Cond,
+) -> Result<(), Memory>
+    ensures { OnOk result (line.new ≡ line.old
+        ++ (spec.opening operand blank ++ spec.condition_words true (spec.inside operand blank) (cond_tree left.now))) }
+{
+    open(alloc, line, operand, blank).and(cond(alloc, line, true, blank && !operand, left))
+}
+
+/// Adds its right operand, or that of a denial.
+#[cycle(cond_words)]
+fn right_cond(
+    alloc: Global,
+    line: &mut Items<Spaced>,
+    operand: bool,
+    right: &Cond,
+) -> Result<(), Memory>
+    ensures { OnOk result (line.new ≡ line.old ++ (spec.condition_words true true (cond_tree right.now) ++ spec.closing operand)) }
+{
+    cond(alloc, line, true, true, right).and(close(alloc, line, operand))
 }

@@ -38,10 +38,9 @@ fn parallel_words(
 ) -> Result<(), Memory>
     ensures { OnOk result (line.new ≡ line.old ++ spec.parallel_words directive.now) }
 {
-    apart(alloc, line, b"parallel")?;
-    apart(alloc, line, b"do")?;
-    clauses(alloc, line, directive)?;
-    Ok(())
+    apart(alloc, line, b"parallel")
+        .and(apart(alloc, line, b"do"))
+        .and(clauses(alloc, line, directive))
 }
 
 /// Adds the directive of a parallel loop.
@@ -69,11 +68,7 @@ fn step(alloc: Global, line: &mut Items<Spaced>, step: &Option<Expr>) -> Result<
 {
     match step {
         None => Ok(()),
-        Some(tree) => {
-            joined(alloc, line, b",")?;
-            expr(alloc, line, false, true, tree)?;
-            Ok(())
-        }
+        Some(tree) => joined(alloc, line, b",").and(expr(alloc, line, false, true, tree)),
     }
 }
 
@@ -86,20 +81,18 @@ fn bounds(
 ) -> Result<(), Memory>
     ensures { OnOk result (line.new ≡ line.old ++ spec.bounds_words (expr_tree first.now) (expr_tree last.now) (step_tree by.now)) }
 {
-    expr(alloc, line, false, true, first)?;
-    joined(alloc, line, b",")?;
-    expr(alloc, line, false, true, last)?;
-    step(alloc, line, by)?;
-    Ok(())
+    expr(alloc, line, false, true, first)
+        .and(joined(alloc, line, b","))
+        .and(expr(alloc, line, false, true, last))
+        .and(step(alloc, line, by))
 }
 
 fn variable(alloc: Global, line: &mut Items<Spaced>, var: &Name) -> Result<(), Memory>
     ensures { OnOk result (line.new ≡ line.old ++ spec.variable_words var.now) }
 {
-    joined(alloc, line, b"do")?;
-    apart(alloc, line, var.bytes())?;
-    apart(alloc, line, b"=")?;
-    Ok(())
+    joined(alloc, line, b"do")
+        .and(apart(alloc, line, var.bytes()))
+        .and(apart(alloc, line, b"="))
 }
 
 fn do_row(
@@ -115,10 +108,9 @@ fn do_row(
         ++ rows_text (spec.do_row margin var.now (expr_tree first.now) (expr_tree last.now) (step_tree by.now) ∷ [])) }
 {
     let mut line = Items::new(alloc);
-    variable(alloc, &mut line, var)?;
-    bounds(alloc, &mut line, first, last, by)?;
-    statement_row(text, margin, line.as_slice())?;
-    Ok(())
+    variable(alloc, &mut line, var)
+        .and(bounds(alloc, &mut line, first, last, by))
+        .and(statement_row(text, margin, line.as_slice()))
 }
 
 /// A loop up to its body.
@@ -152,12 +144,10 @@ fn else_if(alloc: Global, line: &mut Items<Spaced>, later: bool) -> Result<(), M
     ensures { OnOk result (line.new ≡ line.old ++ spec.else_if later) }
 {
     if later {
-        joined(alloc, line, b"else")?;
-        apart(alloc, line, b"if")?;
+        joined(alloc, line, b"else").and(apart(alloc, line, b"if"))
     } else {
-        joined(alloc, line, b"if")?;
+        joined(alloc, line, b"if")
     }
-    Ok(())
 }
 
 fn test_words(
@@ -168,12 +158,11 @@ fn test_words(
 ) -> Result<(), Memory>
     ensures { OnOk result (line.new ≡ line.old ++ spec.test_words later (cond_tree test.now)) }
 {
-    else_if(alloc, line, later)?;
-    apart(alloc, line, b"(")?;
-    cond(alloc, line, false, false, test)?;
-    joined(alloc, line, b")")?;
-    apart(alloc, line, b"then")?;
-    Ok(())
+    else_if(alloc, line, later)
+        .and(apart(alloc, line, b"("))
+        .and(cond(alloc, line, false, false, test))
+        .and(joined(alloc, line, b")"))
+        .and(apart(alloc, line, b"then"))
 }
 
 /// Adds the row of an arm's condition.
@@ -187,9 +176,7 @@ pub fn test_row(
     ensures { OnOk result (text.new.items ≡ text.old.items ++ rows_text (spec.test_row margin later (cond_tree test.now) ∷ [])) }
 {
     let mut line = Items::new(alloc);
-    test_words(alloc, &mut line, later, test)?;
-    statement_row(text, margin, line.as_slice())?;
-    Ok(())
+    test_words(alloc, &mut line, later, test).and(statement_row(text, margin, line.as_slice()))
 }
 
 /// Adds the row of an `else`.
@@ -197,9 +184,7 @@ pub fn else_row(alloc: Global, text: &mut Vec<u8>, margin: usize) -> Result<(), 
     ensures { OnOk result (text.new.items ≡ text.old.items ++ rows_text (spec.else_row margin ∷ [])) }
 {
     let mut line = Items::new(alloc);
-    joined(alloc, &mut line, b"else")?;
-    statement_row(text, margin, line.as_slice())?;
-    Ok(())
+    joined(alloc, &mut line, b"else").and(statement_row(text, margin, line.as_slice()))
 }
 
 /// Adds the last row of a block, as `end do`.
@@ -207,8 +192,7 @@ pub fn end_row(alloc: Global, text: &mut Vec<u8>, margin: usize, block: &[u8]) -
     ensures { OnOk result (text.new.items ≡ text.old.items ++ rows_text (spec.end_row margin block.now ∷ [])) }
 {
     let mut line = Items::new(alloc);
-    joined(alloc, &mut line, b"end")?;
-    apart(alloc, &mut line, block)?;
-    statement_row(text, margin, line.as_slice())?;
-    Ok(())
+    joined(alloc, &mut line, b"end")
+        .and(apart(alloc, &mut line, block))
+        .and(statement_row(text, margin, line.as_slice()))
 }

@@ -19,8 +19,7 @@ pub fn word(alloc: Global, line: &mut Items<Spaced>, blank: bool, text: &[u8]) -
     ensures { OnOk result (line.new ≡ line.old ++ spec.spaced blank text.now ∷ []) }
 {
     let text = Name::of(alloc, text)?;
-    line.push(Spaced { blank, text })?;
-    Ok(())
+    line.push(Spaced { blank, text })
 }
 
 /// Adds a token right behind the one before it.
@@ -51,8 +50,7 @@ pub fn number(
     let mut text = Vec::from_slice(alloc, buffer.format(value).as_bytes())?;
     text.extend_from_slice(suffix)?;
     let text = Name::from_vec(text);
-    line.push(Spaced { blank, text })?;
-    Ok(())
+    line.push(Spaced { blank, text })
 }
 
 /// Adds a number without a suffix.
@@ -73,9 +71,10 @@ pub fn comma(alloc: Global, line: &mut Items<Spaced>, later: bool) -> Result<(),
     ensures { OnOk result (line.new ≡ line.old ++ spec.comma_if later) }
 {
     if later {
-        joined(alloc, line, b",")?;
+        joined(alloc, line, b",")
+    } else {
+        Ok(())
     }
-    Ok(())
 }
 
 /// Opens the bracket of an operand.
@@ -88,9 +87,10 @@ pub fn open(
     ensures { OnOk result (line.new ≡ line.old ++ spec.opening operand blank) }
 {
     if operand {
-        word(alloc, line, blank, b"(")?;
+        word(alloc, line, blank, b"(")
+    } else {
+        Ok(())
     }
-    Ok(())
 }
 
 /// Closes it.
@@ -98,9 +98,10 @@ pub fn close(alloc: Global, line: &mut Items<Spaced>, operand: bool) -> Result<(
     ensures { OnOk result (line.new ≡ line.old ++ spec.closing operand) }
 {
     if operand {
-        joined(alloc, line, b")")?;
+        joined(alloc, line, b")")
+    } else {
+        Ok(())
     }
-    Ok(())
 }
 
 /// Adds names, with commas between them.
@@ -115,8 +116,7 @@ pub fn names(
     let mut later = false;
     let mut blank = blank;
     for name in names {
-        comma(alloc, line, later)?;
-        word(alloc, line, blank, name.bytes())?;
+        comma(alloc, line, later).and(word(alloc, line, blank, name.bytes()))?;
         later = true;
         blank = true;
     }
@@ -127,8 +127,7 @@ pub fn names(
 pub fn bracketed_names(alloc: Global, line: &mut Items<Spaced>, list: &[Name]) -> Result<(), Memory>
     ensures { OnOk result (line.new ≡ line.old ++ spec.bracketed_names list.now) }
 {
-    joined(alloc, line, b"(")?;
-    names(alloc, line, false, list)?;
-    joined(alloc, line, b")")?;
-    Ok(())
+    joined(alloc, line, b"(")
+        .and(names(alloc, line, false, list))
+        .and(joined(alloc, line, b")"))
 }

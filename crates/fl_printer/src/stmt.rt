@@ -34,8 +34,7 @@ fn assign_words(
 {
     place(alloc, line, false, target)?;
     apart(alloc, line, b"=")?;
-    value(alloc, line, atomic, assigned)?;
-    Ok(())
+    value(alloc, line, atomic, assigned)
 }
 
 fn assign_row(
@@ -50,9 +49,11 @@ fn assign_row(
         ++ rows_text (spec.assign_row margin atomic (place_tree target.now) (expr_tree value.now) ∷ [])) }
 {
     let mut line = Items::new(alloc);
-    assign_words(alloc, &mut line, atomic, target, value)?;
-    statement_row(text, margin, line.as_slice())?;
-    Ok(())
+    assign_words(alloc, &mut line, atomic, target, value).and(statement_row(
+        text,
+        margin,
+        line.as_slice(),
+    ))
 }
 
 fn assign(

@@ -15,10 +15,9 @@ use std::alloc::Global;
 fn call(alloc: Global, line: &mut Items<Spaced>, name: &[u8]) -> Result<(), Memory>
     ensures { OnOk result (line.new ≡ line.old ++ spec.call_words name.now) }
 {
-    joined(alloc, line, b"call")?;
-    apart(alloc, line, name)?;
-    joined(alloc, line, b"(")?;
-    Ok(())
+    joined(alloc, line, b"call")
+        .and(apart(alloc, line, name))
+        .and(joined(alloc, line, b"("))
 }
 
 fn pushed_words(
@@ -29,11 +28,10 @@ fn pushed_words(
 ) -> Result<(), Memory>
     ensures { OnOk result (line.new ≡ line.old ++ spec.pushed_words (expr_tree key.now) (expr_tree value.now)) }
 {
-    expr(alloc, line, false, false, key)?;
-    joined(alloc, line, b",")?;
-    expr(alloc, line, false, true, value)?;
-    joined(alloc, line, b")")?;
-    Ok(())
+    expr(alloc, line, false, false, key)
+        .and(joined(alloc, line, b","))
+        .and(expr(alloc, line, false, true, value))
+        .and(joined(alloc, line, b")"))
 }
 
 fn push_words(
@@ -61,9 +59,7 @@ pub fn push(
         ++ rows_text (spec.push_row margin (expr_tree key.now) (expr_tree value.now) ∷ [])) }
 {
     let mut line = Items::new(alloc);
-    push_words(alloc, &mut line, key, value)?;
-    statement_row(text, margin, line.as_slice())?;
-    Ok(())
+    push_words(alloc, &mut line, key, value).and(statement_row(text, margin, line.as_slice()))
 }
 
 fn popped_words(
@@ -74,11 +70,10 @@ fn popped_words(
 ) -> Result<(), Memory>
     ensures { OnOk result (line.new ≡ line.old ++ spec.popped_words (expr_tree key.now) (place_tree target.now)) }
 {
-    expr(alloc, line, false, false, key)?;
-    joined(alloc, line, b",")?;
-    place(alloc, line, true, target)?;
-    joined(alloc, line, b")")?;
-    Ok(())
+    expr(alloc, line, false, false, key)
+        .and(joined(alloc, line, b","))
+        .and(place(alloc, line, true, target))
+        .and(joined(alloc, line, b")"))
 }
 
 fn pop_words(
@@ -106,17 +101,13 @@ pub fn pop(
         ++ rows_text (spec.pop_row margin (expr_tree key.now) (place_tree target.now) ∷ [])) }
 {
     let mut line = Items::new(alloc);
-    pop_words(alloc, &mut line, key, target)?;
-    statement_row(text, margin, line.as_slice())?;
-    Ok(())
+    pop_words(alloc, &mut line, key, target).and(statement_row(text, margin, line.as_slice()))
 }
 
 fn opened_words(alloc: Global, line: &mut Items<Spaced>, count: &Expr) -> Result<(), Memory>
     ensures { OnOk result (line.new ≡ line.old ++ spec.opened_words (expr_tree count.now)) }
 {
-    expr(alloc, line, false, false, count)?;
-    joined(alloc, line, b")")?;
-    Ok(())
+    expr(alloc, line, false, false, count).and(joined(alloc, line, b")"))
 }
 
 fn open_words(alloc: Global, line: &mut Items<Spaced>, count: &Expr) -> Result<(), Memory>
@@ -132,17 +123,13 @@ pub fn begin(alloc: Global, text: &mut Vec<u8>, margin: usize, count: &Expr) -> 
     ensures { OnOk result (text.new.items ≡ text.old.items ++ rows_text (spec.open_row margin (expr_tree count.now) ∷ [])) }
 {
     let mut line = Items::new(alloc);
-    open_words(alloc, &mut line, count)?;
-    statement_row(text, margin, line.as_slice())?;
-    Ok(())
+    open_words(alloc, &mut line, count).and(statement_row(text, margin, line.as_slice()))
 }
 
 fn close_words(alloc: Global, line: &mut Items<Spaced>) -> Result<(), Memory>
     ensures { OnOk result (line.new ≡ line.old ++ (spec.call_words (codes "formad_close") ++ spec.close_bracket)) }
 {
-    call(alloc, line, b"formad_close")?;
-    joined(alloc, line, b")")?;
-    Ok(())
+    call(alloc, line, b"formad_close").and(joined(alloc, line, b")"))
 }
 
 /// Adds the row that closes it.
@@ -150,7 +137,5 @@ pub fn finish(alloc: Global, text: &mut Vec<u8>, margin: usize) -> Result<(), Me
     ensures { OnOk result (text.new.items ≡ text.old.items ++ rows_text (spec.close_row margin ∷ [])) }
 {
     let mut line = Items::new(alloc);
-    close_words(alloc, &mut line)?;
-    statement_row(text, margin, line.as_slice())?;
-    Ok(())
+    close_words(alloc, &mut line).and(statement_row(text, margin, line.as_slice()))
 }

@@ -43,28 +43,23 @@ fn subroutine_row(
     ensures { OnOk result (text.new.items ≡ text.old.items ++ rows_text (spec.subroutine_row name.now args.now ∷ [])) }
 {
     let mut line = Items::new(alloc);
-    subroutine_words(alloc, &mut line, name, args)?;
-    statement_row(text, 0, line.as_slice())?;
-    Ok(())
+    subroutine_words(alloc, &mut line, name, args).and(statement_row(text, 0, line.as_slice()))
 }
 
 fn implicit_row(alloc: Global, text: &mut Vec<u8>) -> Result<(), Memory>
     ensures { OnOk result (text.new.items ≡ text.old.items ++ rows_text (spec.implicit_row ∷ [])) }
 {
     let mut line = Items::new(alloc);
-    joined(alloc, &mut line, b"implicit")?;
-    apart(alloc, &mut line, b"none")?;
-    statement_row(text, 2, line.as_slice())?;
-    Ok(())
+    joined(alloc, &mut line, b"implicit")
+        .and(apart(alloc, &mut line, b"none"))
+        .and(statement_row(text, 2, line.as_slice()))
 }
 
 fn decl_row(alloc: Global, text: &mut Vec<u8>, declared: &Decl) -> Result<(), Memory>
     ensures { OnOk result (text.new.items ≡ text.old.items ++ rows_text (spec.decl_row declared.now ∷ [])) }
 {
     let mut line = Items::new(alloc);
-    decl(alloc, &mut line, declared)?;
-    statement_row(text, 2, line.as_slice())?;
-    Ok(())
+    decl(alloc, &mut line, declared).and(statement_row(text, 2, line.as_slice()))
 }
 
 fn decl_rows(alloc: Global, text: &mut Vec<u8>, decls: &[Decl]) -> Result<(), Memory>
@@ -104,9 +99,7 @@ fn last_row(alloc: Global, text: &mut Vec<u8>, name: &Name) -> Result<(), Memory
     ensures { OnOk result (text.new.items ≡ text.old.items ++ rows_text (spec.last_row name.now ∷ [])) }
 {
     let mut line = Items::new(alloc);
-    last_words(alloc, &mut line, name)?;
-    statement_row(text, 0, line.as_slice())?;
-    Ok(())
+    last_words(alloc, &mut line, name).and(statement_row(text, 0, line.as_slice()))
 }
 
 fn unit_head(
@@ -118,22 +111,19 @@ fn unit_head(
 ) -> Result<(), Memory>
     ensures { OnOk result (text.new.items ≡ text.old.items ++ rows_text (spec.head_rows name.now args.now decls.now)) }
 {
-    head_rows(alloc, text, name, args.as_slice(), decls.as_slice())?;
-    Ok(())
+    head_rows(alloc, text, name, args.as_slice(), decls.as_slice())
 }
 
 fn body_rows(alloc: Global, text: &mut Vec<u8>, body: &Items<Stmt>) -> Result<(), Memory>
     ensures { OnOk result (text.new.items ≡ text.old.items ++ rows_text (spec.block_rows 2 (stmt_trees body.now))) }
 {
-    block(alloc, text, 2, body.as_slice())?;
-    Ok(())
+    block(alloc, text, 2, body.as_slice())
 }
 
 fn part_rows(alloc: Global, text: &mut Vec<u8>, part: &Items<AStmt>) -> Result<(), Memory>
     ensures { OnOk result (text.new.items ≡ text.old.items ++ rows_text (spec.adjoint_block_rows 2 (astmt_trees part.now))) }
 {
-    ablock(alloc, text, 2, part.as_slice())?;
-    Ok(())
+    ablock(alloc, text, 2, part.as_slice())
 }
 
 fn push_program(alloc: Global, text: &mut Vec<u8>, program: &Program) -> Result<(), Memory>
