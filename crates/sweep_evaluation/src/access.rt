@@ -1,7 +1,8 @@
-ghost use Rattle.std.specs.Prelude.{◌≡◌, Bool, true, Unit};
+ghost use Rattle.std.specs.Prelude.{◌≡◌, Bool, true};
 ghost use Rattle.sweep_evaluation.specs.Machine.{Told, ran, Does};
 
 use dual_evaluation::Halt;
+use std::alloc::Global;
 
 /// What an evaluation loads words of, and where its first stop is kept. After a stop loads give words of no meaning and
 /// leave nothing.
@@ -24,6 +25,9 @@ pub trait Access {
     /// There is no value or place.
     fn stop(&mut self, why: Halt)
         ensures { Does stands lost self.old self.new result (λ s. ran result (told.stopped s why)) };
+
+    /// What subscripts of many axes take memory of.
+    fn alloc(&self) -> Global;
 
     /// Memory is wanting.
     fn lose(&mut self)

@@ -11,7 +11,6 @@ use fl_ast::BinOp;
 use resolved::SlotTable;
 use ring_core::{Index, IndexTrap};
 use smallvec::SmallVec;
-use std::alloc::Global;
 use sweep_trees::{IndexCode, Spot};
 
 /// The place of subscripts at a slot's name, `None` where there is none.
@@ -113,7 +112,6 @@ fn load_at<A: Access>(access: &mut A, slot: usize, accessed: bool, place: Option
 }
 
 /// The place of an occurrence of a name, `None` outside its bounds.
-#[cycle(indices)]
 #[inline(always)]
 pub fn locate<A: Access>(access: &mut A, table: &SlotTable, spot: &Spot) -> Option<u32>
     ensures { Does A.stands A.lost access.old access.new result (spot_place A.told table.now (spot_tree spot.now)) }
@@ -155,7 +153,7 @@ fn elements_place<A: Access>(
     ensures { Does A.stands A.lost access.old access.new result
         (λ s. index_values A.told table.now (index_trees subscripts.now) s to (λ zs. ran (place_in_slot table.now.0 slot zs))) }
 {
-    let mut numbers = SmallVec::<i64, 7>::new(Global);
+    let mut numbers = SmallVec::<i64, 7>::new(access.alloc());
     for subscript in subscripts {
         let number = index(access, table, subscript);
         if numbers.push(i64::from(number.value())).is_err() {
