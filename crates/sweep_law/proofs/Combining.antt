@@ -1,5 +1,5 @@
 -- What sweeps keep, one step after the other.
-use Rattle.std.specs.Prelude.{◌≡◌, ℕ, ◌+◌, ℤ, pos, Bool, true, false, if◌then◌else◌, List, [], ◌∷◌, ◌++◌, Option, Some, None, Result, Ok, Err, refl}
+use Rattle.std.specs.Prelude.{◌≡◌, ℕ, ◌+◌, ℤ, pos, Bool, true, false, ◌&&◌, if◌then◌else◌, List, [], ◌∷◌, ◌++◌, Option, Some, None, Result, Ok, Err, refl}
 use Rattle.std.proofs.Common.{ap, sym, subst, ◌∙◌}
 use Rattle.std.proofs.lemmas.List.{append_assoc}
 use Rattle.ring_core.specs.declared.index.IndexTrap.{IndexTrap}
@@ -23,7 +23,22 @@ use Rattle.dual_evaluation.specs.declared.stop.Halt.{Halt}
 use Rattle.dual_evaluation.specs.declared.stop.Halt.TheVariants.{Bounds, Unset}
 use Rattle.dual_evaluation.specs.Answers.{halt_cause}
 use Rattle.sweep_evaluation.specs.Machine.{Ran, ran, ◌to◌, Told, halt_of, exactly, load_at}
-use Rattle.sweep_law.specs.Telling.{Scene, stopped_by, touched_by, loaded_cell, told_by, goes_on, Comes, IsNumber}
+use Rattle.sweep_law.specs.Telling.{Scene, stopped_by, touched_by, loaded_cell, goes_on, IsNumber}
+
+-- ---- at one scene
+
+-- a load gives the word of the place's content, and tells a touch, or that the place is unset
+abbrev pub told_by : Scene → Told Kept
+told_by c = record {
+  word = λ k p. word_of (content k.cells p);
+  loaded = λ k slot p accessed. loaded_cell c k slot p accessed (content k.cells p);
+  stopped = stopped_by c;
+}
+
+pub record Comes {X A : Type 0} (c : Scene) (k : Kept) (t : Traced Cause X) (R : X → A → Type 0) (r : Ran Kept A) : Type 0 where
+  pub told : r.state ≡ after_notes c.judge c.limits k (notes_in c.iteration (at_line c.line t).log)
+  pub cells : r.state.cells ≡ k.cells
+  pub value : goes_on r.state.seen ≡ true → (x : X) × ((t.out ≡ Ok x) × R x r.out)
 
 pub clash : {b : Bool} → b ≡ true → b ≡ false → ⊥
 clash p q = cc
@@ -62,8 +77,11 @@ still_exactly c (Err t) k h = still_stopped c (halt_of t) k h
 
 still_loaded : (c : Scene) (k : Kept) (slot p : ℕ) (accessed : Bool) (v : Option Value) → goes_on k.seen ≡ false → loaded_cell c k slot p accessed v ≡ k
 still_loaded c k slot p accessed None h = still_stopped c (Unset slot) k h
-still_loaded c k slot p true (Some v) h = still c.judge c.limits k (tells (touches (record { place = p; iteration = c.iteration; kind = Read })) ∷ []) h
-still_loaded c k slot p false (Some v) h = refl
+still_loaded c k slot p accessed (Some v) h = by_flag (accessed && c.within)
+  where
+    by_flag : (b : Bool) → (if b then touched_by c k p else k) ≡ k
+    by_flag true = still c.judge c.limits k (tells (touches (record { place = p; iteration = c.iteration; kind = Read })) ∷ []) h
+    by_flag false = refl
 
 pub still_load : (c : Scene) (slot : ℕ) (accessed : Bool) (o : Option ℕ) → Still (load_at (told_by c) slot accessed o)
 still_load c slot accessed None k h = still_stopped c (Bounds slot) k h
@@ -105,21 +123,21 @@ comes_exactly c k (Err trap.ZeroDivisor) = comes_stop c k IsNumber (halt_of trap
 abbrev pub IsRead : Kind → Value → ℕ → Type 0
 IsRead kd v w = (w ≡ word_of (Some v)) × HasKind kd v
 
-comes_touched : (c : Scene) (k : Kept) (site : Site) (kd : Kind) (slot : ℕ) (accessed : Bool) (p : ℕ) (v : Value) → site.accessed (slot_name c.names.0 slot) ≡ accessed → HasKind kd v
-    → Comes c k (after_touch site (slot_name c.names.0 slot) p Read (pure v)) (IsRead kd) (ran (word_of (Some v)) (loaded_cell c k slot p accessed (Some v)))
-comes_touched c k site kd slot true p v e h = rw e record {
+comes_touched : (c : Scene) (k : Kept) (site : Site) (kd : Kind) (x : List ℕ) (flag : Bool) (p : ℕ) (v : Value) → site.accessed x ≡ flag → HasKind kd v
+    → Comes c k (after_touch site x p Read (pure v)) (IsRead kd) (ran (word_of (Some v)) (if flag then touched_by c k p else k))
+comes_touched c k site kd x true p v e h = rw e record {
   told = refl;
   cells = cells_told c.judge c.limits (touches (record { place = p; iteration = c.iteration; kind = Read })) k.ticks k.cells k.seen;
   value = λ g. (v, (refl, (refl, h)));
 }
-comes_touched c k site kd slot false p v e h = rw e (comes_ran c k (IsRead kd) v (word_of (Some v)) (refl, h))
+comes_touched c k site kd x false p v e h = rw e (comes_ran c k (IsRead kd) v (word_of (Some v)) (refl, h))
 
-comes_cell : (c : Scene) (k : Kept) (site : Site) (kd : Kind) (slot : ℕ) (accessed : Bool) (p : ℕ) (cell : Option Value) → site.accessed (slot_name c.names.0 slot) ≡ accessed → HoldsKind kd cell
+comes_cell : (c : Scene) (k : Kept) (site : Site) (kd : Kind) (slot : ℕ) (accessed : Bool) (p : ℕ) (cell : Option Value) → site.accessed (slot_name c.names.0 slot) ≡ (accessed && c.within) → HoldsKind kd cell
     → Comes c k (read_cell site (slot_name c.names.0 slot) p cell) (IsRead kd) (ran (word_of cell) (loaded_cell c k slot p accessed cell))
 comes_cell c k site kd slot accessed p None e h = comes_stop c k (IsRead kd) (Unset slot) _ 0 refl
-comes_cell c k site kd slot accessed p (Some v) e h = comes_touched c k site kd slot accessed p v e h
+comes_cell c k site kd slot accessed p (Some v) e h = comes_touched c k site kd (slot_name c.names.0 slot) (accessed && c.within) p v e h
 
-pub comes_load : (c : Scene) (k : Kept) (site : Site) (cells : Cells) (kd : Kind) (slot : ℕ) (accessed : Bool) (o : Option ℕ) → k.cells ≡ cells → site.accessed (slot_name c.names.0 slot) ≡ accessed
+pub comes_load : (c : Scene) (k : Kept) (site : Site) (cells : Cells) (kd : Kind) (slot : ℕ) (accessed : Bool) (o : Option ℕ) → k.cells ≡ cells → site.accessed (slot_name c.names.0 slot) ≡ (accessed && c.within)
     → ((p : ℕ) → o ≡ Some p → HoldsKind kd (content cells p))
     → Comes c k (read_place site cells (slot_name c.names.0 slot) o) (IsRead kd) (load_at (told_by c) slot accessed o k)
 comes_load c k site cells kd slot accessed None q e h = comes_stop c k (IsRead kd) (Bounds slot) _ 0 refl

@@ -42,8 +42,8 @@ use Rattle.sweep_trees.specs.declared.code.RingOp.TheVariants.{Add, Sub, Mul}
 use Rattle.sweep_trees.specs.Split.{SpotTree, scalar, element, elements, IndexTree, number, index_get, index_minus, index_binary, index_power, index_larger, index_smaller, index_remainder, index_absolute, IndexTrees, no_indices, index, RingTree, word, ring_get, widened, ring_minus, ring_binary, ring_power, ring_larger, ring_smaller, ring_absolute, TestTree, index_test, ring_test, not_test, and_test, or_test}
 use Rattle.sweep_trees.specs.Standing.{one, two, op_back, is_accessed_at, same_flag, is_place, is_slot, is_number, spot_back, index_back, indices_back, ring_back, test_back, is_spot_fit, is_index_fit, are_indices_fit, is_widened, is_ring_fit, is_test_fit}
 use Rattle.sweep_evaluation.specs.Machine.{Ran, ran, ◌to◌, Told, exactly, index_found, larger_index, smaller_index, absolute_index, narrow, widen, ring_found, larger_word, smaller_word, absolute_word, load_at, spot_slot, is_accessed, spot_place, spot_word, index_value, index_values, ring_value, test_value}
-use Rattle.sweep_law.specs.Telling.{Scene, told_by, IsSite, Comes, IsNumber, IsRing, IsWord, IsSame, EvaluationsAreTold}
-use Rattle.sweep_law.proofs.Combining.{Still, still_ran, still_to, still_two, still_exactly, still_load, comes_ran, comes_exactly, IsRead, comes_load, comes_by}
+use Rattle.sweep_law.specs.Telling.{Scene, IsSite, IsNumber, IsRing, IsWord, IsSame}
+use Rattle.sweep_law.proofs.Combining.{told_by, Comes, Still, still_ran, still_to, still_two, still_exactly, still_load, comes_ran, comes_exactly, IsRead, comes_load, comes_by}
 
 -- ---- after a stop nothing changes
 
@@ -124,7 +124,7 @@ exact_number z h = rw h refl
 record IsAt (c : Scene) (site : Site) (of_kind : Kind → Bool) (slot : ℕ) (accessed : Bool) : Type 0 where
   below : slot < length c.names.0
   kinded : of_kind (kind_of site (slot_name c.names.0 slot)) ≡ true
-  access : site.accessed (slot_name c.names.0 slot) ≡ accessed
+  access : site.accessed (slot_name c.names.0 slot) ≡ (accessed && c.within)
 
 same_flags : (a b : Bool) → same_flag a b ≡ true → b ≡ a
 same_flags true true h = refl
@@ -135,7 +135,7 @@ same_flags false false h = refl
 slot_below : (a b : ℕ) → nat_lt a b ≡ true → a < b
 slot_below a b h = grind (arith, nat_tests)
 
-is_at : (c : Scene) (site : Site) (flags : List Bool) → IsSite site c.names flags → (of_kind : Kind → Bool) (slot : ℕ) (accessed : Bool) → is_slot c.names flags of_kind slot accessed ≡ true → IsAt c site of_kind slot accessed
+is_at : (c : Scene) (site : Site) (flags : List Bool) → IsSite site c.names flags c.within → (of_kind : Kind → Bool) (slot : ℕ) (accessed : Bool) → is_slot c.names flags of_kind slot accessed ≡ true → IsAt c site of_kind slot accessed
 is_at c site flags s of_kind slot accessed h =
     let p = and_parts (nat_lt slot (length c.names.0)) (of_kind (kind_at c.names.1 slot) && same_flag accessed (is_accessed_at flags slot)) h in
     let q = and_parts (of_kind (kind_at c.names.1 slot)) (same_flag accessed (is_accessed_at flags slot)) p.1 in
@@ -143,14 +143,14 @@ is_at c site flags s of_kind slot accessed h =
     record {
       below = b;
       kinded = ap of_kind (s.kinds slot b) ∙ q.0;
-      access = s.accesses slot b ∙ same_flags accessed (is_accessed_at flags slot) q.1;
+      access = s.accesses slot b ∙ ap (λ (f : Bool). f && c.within) (same_flags accessed (is_accessed_at flags slot) q.1);
     }
 
 place_found : (o : Option ℕ) (p : ℕ) → is_place o p ≡ true → o ≡ Some p
 place_found None p h = cc
 place_found (Some q) p h = let e : q ≡ p = grind (arith, nat_tests) in ap Some e
 
-placed : (c : Scene) (site : Site) (flags : List Bool) → IsSite site c.names flags → (slot : ℕ) → slot < length c.names.0 → (zs : List ℤ)
+placed : (c : Scene) (site : Site) (flags : List Bool) → IsSite site c.names flags c.within → (slot : ℕ) → slot < length c.names.0 → (zs : List ℤ)
     → place_in_slot c.names.0 slot zs ≡ place_of site (slot_name c.names.0 slot) zs
 placed c site flags s slot b zs = place_by_slot c.names slot zs b ∙ ap (λ ks. first_at (same_key (slot_name c.names.0 slot, zs)) ks) (sym s.keys)
 
@@ -243,7 +243,7 @@ over_arguments {A = A} {B = B} c site cells a b f R S Q m n g d e sn s h =
 -- ---- a tree over fitting cells
 
 record Over (c : Scene) (site : Site) (flags : List Bool) (cells : Cells) : Type 0 where
-  site_is : IsSite site c.names flags
+  site_is : IsSite site c.names flags c.within
   fits : Fits site cells
 
 abbrev OverIndex : Scene → Site → Cells → IndexTree → Type 0
@@ -290,7 +290,7 @@ over_read c site flags cells o of_kind slot accessed b vs =
     λ k e. comes_load c k site cells (kind_of site (slot_name c.names.0 slot)) slot accessed (place_of site (slot_name c.names.0 slot) (whole_numbers vs)) e b.access
     (λ p q. fits_at site site.keys cells (slot_name c.names.0 slot) (whole_numbers vs) p o.fits q)
 
-spot_at : (c : Scene) (site : Site) (flags : List Bool) → IsSite site c.names flags → (of_kind : Kind → Bool) (p : SpotTree) → is_spot_fit c.names flags of_kind p ≡ true → IsAt c site of_kind (spot_slot p) (is_accessed p)
+spot_at : (c : Scene) (site : Site) (flags : List Bool) → IsSite site c.names flags c.within → (of_kind : Kind → Bool) (p : SpotTree) → is_spot_fit c.names flags of_kind p ≡ true → IsAt c site of_kind (spot_slot p) (is_accessed p)
 spot_at c site flags s of_kind (scalar slot place accessed) h = is_at c site flags s of_kind slot accessed (and_parts (is_slot c.names flags of_kind slot accessed) (is_place (place_in_slot c.names.0 slot []) place) h).0
 spot_at c site flags s of_kind (element slot accessed i) h = is_at c site flags s of_kind slot accessed (and_parts (is_slot c.names flags of_kind slot accessed) (is_index_fit c.names flags i) h).0
 spot_at c site flags s of_kind (elements slot accessed is) h = is_at c site flags s of_kind slot accessed (and_parts (is_slot c.names flags of_kind slot accessed) (are_indices_fit c.names flags is) h).0
@@ -539,8 +539,20 @@ over_test c site flags cells o (or_test a b) h =
     (test_value (told_by c) c.names a) (test_value (told_by c) c.names b) (λ p q. ran (p || q)) (over_test c site flags cells o a f.0) (over_test c site flags cells o b f.1)
     (still_test c c.names b) (λ p q. still_ran (p || q)) (λ p q x y r s. over_ran c cells IsSame (p || q) (x || y) (rw (r, s) refl))
 
-pub evaluated : EvaluationsAreTold
-evaluated = λ c site flags s k f.
+-- ---- all of it, at one scene
+
+pub record ComesBy (c : Scene) (site : Site) (flags : List Bool) (k : Kept) : Type 0 where
+  pub of_spot : (of_kind : Kind → Bool) (p : SpotTree) → is_spot_fit c.names flags of_kind p ≡ true
+      → Comes c k (location_of site k.cells (spot_back c.names.0 p)) IsSame (spot_place (told_by c) c.names p k)
+  pub of_index : (i : IndexTree) → is_index_fit c.names flags i ≡ true
+      → Comes c k (value_of (index_back c.names.0 i) site k.cells) IsNumber (index_value (told_by c) c.names i k)
+  pub of_ring : (a : RingTree) → is_ring_fit c.names flags a ≡ true
+      → Comes c k (value_of (ring_back c.names.0 a) site k.cells) (IsWord (is_widened a)) (ring_value (told_by c) c.names a k)
+  pub of_test : (a : TestTree) → is_test_fit c.names flags a ≡ true
+      → Comes c k (holds (test_back c.names.0 a) site k.cells) IsSame (test_value (told_by c) c.names a k)
+
+pub evaluated_at : (c : Scene) (site : Site) (flags : List Bool) → IsSite site c.names flags c.within → (k : Kept) → Fits site k.cells → ComesBy c site flags k
+evaluated_at c site flags s k f =
     let o : Over c site flags k.cells = record { site_is = s; fits = f } in
     record {
       of_spot = λ of_kind p h. over_spot c site flags k.cells o of_kind p h (over_parts c site flags k.cells o of_kind p h) (Option ℕ) (Option ℕ)

@@ -1,5 +1,5 @@
 -- What a forward sweep keeps of loads and stops, and the law that it is what the meaning tells.
-use Rattle.std.specs.Prelude.{◌≡◌, ℕ, ◌<◌, ℤ, Bool, true, false, if◌then◌else◌, List, length, Option, Some, None, Result, Ok, Err}
+use Rattle.std.specs.Prelude.{◌≡◌, ℕ, ◌<◌, ℤ, Bool, true, false, ◌&&◌, if◌then◌else◌, List, length, Option, Some, None, Result, Ok, Err}
 use Rattle.fl_types.specs.declared.access.AccessKind.TheVariants.{Read}
 use Rattle.store_core.specs.Keys.{keys_of}
 use Rattle.meaning.specs.declared.value.Value.{Value}
@@ -22,12 +22,14 @@ use Rattle.sweep_trees.specs.Standing.{is_accessed_at, spot_back, index_back, ri
 use Rattle.fl_ast.specs.declared.kind.Kind.{Kind}
 use Rattle.sweep_evaluation.specs.Machine.{Ran, Told, spot_place, index_value, ring_value, test_value}
 
--- where an evaluation stands: what judges loops, the limits, the names by slot, the line of its statement, and the iteration around it
+-- where an evaluation stands: what judges loops, the limits, the names by slot, the line of its statement, whether a parallel loop is
+-- around it, and the iteration that is
 pub record Scene : Type 0 where
   pub judge : Judge
   pub limits : Limits
   pub names : Names
   pub line : ℕ
+  pub within : Bool
   pub iteration : ℕ
 
 abbrev pub stopped_by : Scene → Kept → Halt → Kept
@@ -38,22 +40,30 @@ touched_by c k p = with_note c.judge c.limits k (tells (touches (record { place 
 
 abbrev pub loaded_cell : Scene → Kept → (slot place : ℕ) → (accessed : Bool) → Option Value → Kept
 loaded_cell c k slot p accessed None = stopped_by c k (Unset slot)
-loaded_cell c k slot p accessed (Some v) = if accessed then touched_by c k p else k
+loaded_cell c k slot p accessed (Some v) = if accessed && c.within then touched_by c k p else k
+
+-- where a sweep stands, and what it has kept
+pub record Standing : Type 0 where
+  pub scene : Scene
+  pub kept : Kept
+
+abbrev pub standing : Scene → Kept → Standing
+standing c k = record { scene = c; kept = k }
 
 -- a load gives the word of the place's content, and tells a touch, or that the place is unset
-abbrev pub told_by : Scene → Told Kept
-told_by c = record {
-  word = λ k p. word_of (content k.cells p);
-  loaded = λ k slot p accessed. loaded_cell c k slot p accessed (content k.cells p);
-  stopped = stopped_by c;
+abbrev pub told : Told Standing
+told = record {
+  word = λ s p. word_of (content s.kept.cells p);
+  loaded = λ s slot p accessed. standing s.scene (loaded_cell s.scene s.kept slot p accessed (content s.kept.cells p));
+  stopped = λ s why. standing s.scene (stopped_by s.scene s.kept why);
 }
 
--- a site has the names of a table, and the flags tell by slot which make accesses
-pub record IsSite (site : Site) (names : Names) (flags : List Bool) : Type 0 where
+-- a site has the names of a table, and where a parallel loop is around it the flags tell by slot which make accesses
+pub record IsSite (site : Site) (names : Names) (flags : List Bool) (within : Bool) : Type 0 where
   pub keys : site.keys ≡ keys_of names.0
   pub width : site.width ≡ names.2
   pub kinds : (slot : ℕ) → slot < length names.0 → kind_of site (slot_name names.0 slot) ≡ kind_at names.1 slot
-  pub accesses : (slot : ℕ) → slot < length names.0 → site.accessed (slot_name names.0 slot) ≡ is_accessed_at flags slot
+  pub accesses : (slot : ℕ) → slot < length names.0 → site.accessed (slot_name names.0 slot) ≡ (is_accessed_at flags slot && within)
 
 abbrev pub goes_on : Result Seen Stop → Bool
 goes_on (Ok s) = true
@@ -61,10 +71,10 @@ goes_on (Err x) = false
 
 -- from what was kept before it, a run comes to what the meaning tells of it at the scene's line, with the cells as they were; and
 -- where there is no stop, to what stands for the value
-pub record Comes {X A : Type 0} (c : Scene) (k : Kept) (t : Traced Cause X) (R : X → A → Type 0) (r : Ran Kept A) : Type 0 where
-  pub told : r.state ≡ after_notes c.judge c.limits k (notes_in c.iteration (at_line c.line t).log)
-  pub cells : r.state.cells ≡ k.cells
-  pub value : goes_on r.state.seen ≡ true → (x : X) × ((t.out ≡ Ok x) × R x r.out)
+pub record Comes {X A : Type 0} (c : Scene) (k : Kept) (t : Traced Cause X) (R : X → A → Type 0) (r : Ran Standing A) : Type 0 where
+  pub state : r.state ≡ standing c (after_notes c.judge c.limits k (notes_in c.iteration (at_line c.line t).log))
+  pub cells : r.state.kept.cells ≡ k.cells
+  pub value : goes_on r.state.kept.seen ≡ true → (x : X) × ((t.out ≡ Ok x) × R x r.out)
 
 abbrev pub IsNumber : Value → ℤ → Type 0
 IsNumber v z = v ≡ Index z
@@ -82,13 +92,13 @@ IsSame a b = a ≡ b
 
 pub record ComesAt (c : Scene) (site : Site) (flags : List Bool) (k : Kept) : Type 0 where
   pub of_spot : (of_kind : Kind → Bool) (p : SpotTree) → is_spot_fit c.names flags of_kind p ≡ true
-      → Comes c k (location_of site k.cells (spot_back c.names.0 p)) IsSame (spot_place (told_by c) c.names p k)
+      → Comes c k (location_of site k.cells (spot_back c.names.0 p)) IsSame (spot_place told c.names p (standing c k))
   pub of_index : (i : IndexTree) → is_index_fit c.names flags i ≡ true
-      → Comes c k (value_of (index_back c.names.0 i) site k.cells) IsNumber (index_value (told_by c) c.names i k)
+      → Comes c k (value_of (index_back c.names.0 i) site k.cells) IsNumber (index_value told c.names i (standing c k))
   pub of_ring : (a : RingTree) → is_ring_fit c.names flags a ≡ true
-      → Comes c k (value_of (ring_back c.names.0 a) site k.cells) (IsWord (is_widened a)) (ring_value (told_by c) c.names a k)
+      → Comes c k (value_of (ring_back c.names.0 a) site k.cells) (IsWord (is_widened a)) (ring_value told c.names a (standing c k))
   pub of_test : (a : TestTree) → is_test_fit c.names flags a ≡ true
-      → Comes c k (holds (test_back c.names.0 a) site k.cells) IsSame (test_value (told_by c) c.names a k)
+      → Comes c k (holds (test_back c.names.0 a) site k.cells) IsSame (test_value told c.names a (standing c k))
 
 abbrev pub EvaluationsAreTold : Type 0
-EvaluationsAreTold = (c : Scene) (site : Site) (flags : List Bool) → IsSite site c.names flags → (k : Kept) → Fits site k.cells → ComesAt c site flags k
+EvaluationsAreTold = (c : Scene) (site : Site) (flags : List Bool) → IsSite site c.names flags c.within → (k : Kept) → Fits site k.cells → ComesAt c site flags k
