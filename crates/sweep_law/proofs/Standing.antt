@@ -13,36 +13,36 @@ use Rattle.first_stops.specs.Kept.{Kept}
 use Rattle.resolved.specs.SlotTables.{Names}
 use Rattle.sweep_trees.specs.Split.{SpotTree, scalar, element, elements, IndexTree, number, index_get, index_minus, index_binary, index_power, index_larger, index_smaller, index_remainder, index_absolute, IndexTrees, no_indices, index, RingTree, word, ring_get, widened, ring_minus, ring_binary, ring_power, ring_larger, ring_smaller, ring_absolute, TestTree, index_test, ring_test, not_test, and_test, or_test}
 use Rattle.sweep_evaluation.specs.Machine.{Ran, ran, ◌to◌, exactly, index_found, larger_index, smaller_index, absolute_index, narrow, widen, ring_found, larger_word, smaller_word, absolute_word, load_at, spot_slot, is_accessed, spot_place, spot_word, index_value, index_values, ring_value, test_value}
-use Rattle.sweep_law.specs.Telling.{Scene, Standing, standing, told, EvaluationsAreTold}
+use Rattle.sweep_law.specs.Telling.{Scene, ForwardTape, Standing, standing, told, EvaluationsAreTold}
 use Rattle.sweep_law.specs.Telling.{Comes as StandingComes}
 use Rattle.sweep_law.proofs.Combining.{told_by, Comes}
 use Rattle.sweep_law.proofs.Evaluated.{evaluated_at}
 
-abbrev up : {A : Type 0} → Scene → Ran Kept A → Ran Standing A
-up c r = record { out = r.out; state = standing c r.state }
+abbrev up : {A : Type 0} → Scene → ForwardTape → Ran Kept A → Ran Standing A
+up c t r = record { out = r.out; state = standing c t r.state }
 
 -- the same run, with the scene beside it and without
 abbrev SameAt : {A : Type 0} → Scene → (Standing → Ran Standing A) → (Kept → Ran Kept A) → Type 0
-SameAt c M m = (k : Kept) → M (standing c k) ≡ up c (m k)
+SameAt c M m = (t : ForwardTape) (k : Kept) → M (standing c t k) ≡ up c t (m k)
 
 same_ran : {A : Type 0} (c : Scene) (a : A) → SameAt c (ran a) (ran a)
-same_ran c a k = refl
+same_ran c a t k = refl
 
 same_to : {A B : Type 0} (c : Scene) (M : Standing → Ran Standing A) (m : Kept → Ran Kept A) (F : A → Standing → Ran Standing B) (f : A → Kept → Ran Kept B)
     → SameAt c M m → ((a : A) → SameAt c (F a) (f a)) → SameAt c (λ s. M s to F) (λ k. m k to f)
-same_to c M m F f e h k = ap (λ (r : Ran Standing _). F r.out r.state) (e k) ∙ h (m k).out (m k).state
+same_to c M m F f e h t k = ap (λ (r : Ran Standing _). F r.out r.state) (e t k) ∙ h (m k).out t (m k).state
 
 same_two : {A B C : Type 0} (c : Scene) (M : Standing → Ran Standing A) (m : Kept → Ran Kept A) (N : Standing → Ran Standing B) (n : Kept → Ran Kept B) (F : A → B → Standing → Ran Standing C) (f : A → B → Kept → Ran Kept C)
     → SameAt c M m → SameAt c N n → ((a : A) (b : B) → SameAt c (F a b) (f a b)) → SameAt c (λ s. M s to (λ a t. N t to F a)) (λ k. m k to (λ a t. n t to f a))
 same_two c M m N n F f e g h = same_to c M m (λ a t. N t to F a) (λ a t. n t to f a) e (λ a. same_to c N n (F a) (f a) g (h a))
 
 same_exactly : (c : Scene) (r : Result ℤ IndexTrap) → SameAt c (exactly told r) (exactly (told_by c) r)
-same_exactly c (Ok z) k = refl
-same_exactly c (Err t) k = refl
+same_exactly c (Ok z) t k = refl
+same_exactly c (Err x) t k = refl
 
 same_load : (c : Scene) (slot : ℕ) (accessed : Bool) (o : Option ℕ) → SameAt c (load_at told slot accessed o) (load_at (told_by c) slot accessed o)
-same_load c slot accessed None k = refl
-same_load c slot accessed (Some p) k = refl
+same_load c slot accessed None t k = refl
+same_load c slot accessed (Some p) t k = refl
 
 mutual
   same_spot : (c : Scene) (names : Names) (p : SpotTree) → SameAt c (spot_place told names p) (spot_place (told_by c) names p)
@@ -111,15 +111,15 @@ same_test c names (or_test a b) =
     same_two c (test_value told names a) (test_value (told_by c) names a) (test_value told names b) (test_value (told_by c) names b) (λ p q. ran (p || q)) (λ p q. ran (p || q)) (same_test c names a) (same_test c names b) (λ p q. same_ran c (p || q))
 
 -- what holds without the scene holds with it
-raised : {X A : Type 0} (c : Scene) (k : Kept) (t : Traced Cause X) (R : X → A → Type 0) (M : Standing → Ran Standing A) (m : Kept → Ran Kept A) → SameAt c M m → Comes c k t R (m k) → StandingComes c k t R (M (standing c k))
-raised c k t R M m e d = rw (e k) record { state = ap (standing c) d.told; cells = d.cells; value = d.value }
+raised : {X A : Type 0} (c : Scene) (tape : ForwardTape) (k : Kept) (t : Traced Cause X) (R : X → A → Type 0) (M : Standing → Ran Standing A) (m : Kept → Ran Kept A) → SameAt c M m → Comes c k t R (m k) → StandingComes c tape k t R (M (standing c tape k))
+raised c tape k t R M m e d = rw (e tape k) record { state = ap (standing c tape) d.told; cells = d.cells; value = d.value }
 
 pub evaluated : EvaluationsAreTold
-evaluated = λ c site flags s k f.
+evaluated = λ c site flags s tape k f.
     let d = evaluated_at c site flags s k f in
     record {
-      of_spot = λ of_kind p h. raised c k _ _ (spot_place told c.names p) (spot_place (told_by c) c.names p) (same_spot c c.names p) (d.of_spot of_kind p h);
-      of_index = λ i h. raised c k _ _ (index_value told c.names i) (index_value (told_by c) c.names i) (same_index c c.names i) (d.of_index i h);
-      of_ring = λ a h. raised c k _ _ (ring_value told c.names a) (ring_value (told_by c) c.names a) (same_ring c c.names a) (d.of_ring a h);
-      of_test = λ a h. raised c k _ _ (test_value told c.names a) (test_value (told_by c) c.names a) (same_test c c.names a) (d.of_test a h);
+      of_spot = λ of_kind p h. raised c tape k _ _ (spot_place told c.names p) (spot_place (told_by c) c.names p) (same_spot c c.names p) (d.of_spot of_kind p h);
+      of_index = λ i h. raised c tape k _ _ (index_value told c.names i) (index_value (told_by c) c.names i) (same_index c c.names i) (d.of_index i h);
+      of_ring = λ a h. raised c tape k _ _ (ring_value told c.names a) (ring_value (told_by c) c.names a) (same_ring c c.names a) (d.of_ring a h);
+      of_test = λ a h. raised c tape k _ _ (test_value told c.names a) (test_value (told_by c) c.names a) (same_test c c.names a) (d.of_test a h);
     }

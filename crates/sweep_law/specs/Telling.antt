@@ -2,6 +2,7 @@
 use Rattle.std.specs.Prelude.{◌≡◌, ℕ, ◌<◌, ℤ, Bool, true, false, ◌&&◌, if◌then◌else◌, List, length, Option, Some, None, Result, Ok, Err}
 use Rattle.fl_types.specs.declared.access.AccessKind.TheVariants.{Read}
 use Rattle.store_core.specs.Keys.{keys_of}
+use Rattle.store_core.specs.Tapes.{Item, IterationLists}
 use Rattle.meaning.specs.declared.value.Value.{Value}
 use Rattle.meaning.specs.declared.value.Value.TheVariants.{Index, Ring}
 use Rattle.meaning.specs.declared.value.Cause.{Cause}
@@ -42,20 +43,26 @@ abbrev pub loaded_cell : Scene → Kept → (slot place : ℕ) → (accessed : B
 loaded_cell c k slot p accessed None = stopped_by c k (Unset slot)
 loaded_cell c k slot p accessed (Some v) = if accessed && c.within then touched_by c k p else k
 
--- where a sweep stands, and what it has kept
+-- the tape of a forward sweep: its items, the top first, and in a parallel loop the tapes of the iterations so far, to the last of which words go
+pub record ForwardTape : Type 0 where
+  pub items : List Item
+  pub running : Option IterationLists
+
+-- where a sweep stands, what it has kept, and its tape
 pub record Standing : Type 0 where
   pub scene : Scene
   pub kept : Kept
+  pub tape : ForwardTape
 
-abbrev pub standing : Scene → Kept → Standing
-standing c k = record { scene = c; kept = k }
+abbrev pub standing : Scene → ForwardTape → Kept → Standing
+standing c t k = record { scene = c; kept = k; tape = t }
 
 -- a load gives the word of the place's content, and tells a touch, or that the place is unset
 abbrev pub told : Told Standing
 told = record {
   word = λ s p. word_of (content s.kept.cells p);
-  loaded = λ s slot p accessed. standing s.scene (loaded_cell s.scene s.kept slot p accessed (content s.kept.cells p));
-  stopped = λ s why. standing s.scene (stopped_by s.scene s.kept why);
+  loaded = λ s slot p accessed. standing s.scene s.tape (loaded_cell s.scene s.kept slot p accessed (content s.kept.cells p));
+  stopped = λ s why. standing s.scene s.tape (stopped_by s.scene s.kept why);
 }
 
 -- a site has the names of a table, and where a parallel loop is around it the flags tell by slot which make accesses
@@ -71,8 +78,8 @@ goes_on (Err x) = false
 
 -- from what was kept before it, a run comes to what the meaning tells of it at the scene's line, with the cells as they were; and
 -- where there is no stop, to what stands for the value
-pub record Comes {X A : Type 0} (c : Scene) (k : Kept) (t : Traced Cause X) (R : X → A → Type 0) (r : Ran Standing A) : Type 0 where
-  pub state : r.state ≡ standing c (after_notes c.judge c.limits k (notes_in c.iteration (at_line c.line t).log))
+pub record Comes {X A : Type 0} (c : Scene) (tape : ForwardTape) (k : Kept) (t : Traced Cause X) (R : X → A → Type 0) (r : Ran Standing A) : Type 0 where
+  pub state : r.state ≡ standing c tape (after_notes c.judge c.limits k (notes_in c.iteration (at_line c.line t).log))
   pub cells : r.state.kept.cells ≡ k.cells
   pub value : goes_on r.state.kept.seen ≡ true → (x : X) × ((t.out ≡ Ok x) × R x r.out)
 
@@ -90,15 +97,15 @@ IsWord widened v x = ((as_dual v).value ≡ x) × (widened ≡ false → IsRing 
 abbrev pub IsSame : {A : Type 0} → A → A → Type 0
 IsSame a b = a ≡ b
 
-pub record ComesAt (c : Scene) (site : Site) (flags : List Bool) (k : Kept) : Type 0 where
+pub record ComesAt (c : Scene) (site : Site) (flags : List Bool) (tape : ForwardTape) (k : Kept) : Type 0 where
   pub of_spot : (of_kind : Kind → Bool) (p : SpotTree) → is_spot_fit c.names flags of_kind p ≡ true
-      → Comes c k (location_of site k.cells (spot_back c.names.0 p)) IsSame (spot_place told c.names p (standing c k))
+      → Comes c tape k (location_of site k.cells (spot_back c.names.0 p)) IsSame (spot_place told c.names p (standing c tape k))
   pub of_index : (i : IndexTree) → is_index_fit c.names flags i ≡ true
-      → Comes c k (value_of (index_back c.names.0 i) site k.cells) IsNumber (index_value told c.names i (standing c k))
+      → Comes c tape k (value_of (index_back c.names.0 i) site k.cells) IsNumber (index_value told c.names i (standing c tape k))
   pub of_ring : (a : RingTree) → is_ring_fit c.names flags a ≡ true
-      → Comes c k (value_of (ring_back c.names.0 a) site k.cells) (IsWord (is_widened a)) (ring_value told c.names a (standing c k))
+      → Comes c tape k (value_of (ring_back c.names.0 a) site k.cells) (IsWord (is_widened a)) (ring_value told c.names a (standing c tape k))
   pub of_test : (a : TestTree) → is_test_fit c.names flags a ≡ true
-      → Comes c k (holds (test_back c.names.0 a) site k.cells) IsSame (test_value told c.names a (standing c k))
+      → Comes c tape k (holds (test_back c.names.0 a) site k.cells) IsSame (test_value told c.names a (standing c tape k))
 
 abbrev pub EvaluationsAreTold : Type 0
-EvaluationsAreTold = (c : Scene) (site : Site) (flags : List Bool) → IsSite site c.names flags c.within → (k : Kept) → Fits site k.cells → ComesAt c site flags k
+EvaluationsAreTold = (c : Scene) (site : Site) (flags : List Bool) → IsSite site c.names flags c.within → (tape : ForwardTape) (k : Kept) → Fits site k.cells → ComesAt c site flags tape k

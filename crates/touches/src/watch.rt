@@ -26,7 +26,7 @@ pub trait Watch {
     // What is said of a loop at its end, by its line and its touches.
     ghost judge: { ℕ → List Touch → Option Clash };
 
-    // Touches are at places below this number.
+    // How many places it looks at. A touch at a place from this number on is not told.
     ghost places: { Self → ℕ };
 
     /// A parallel loop begins, whose `do` is on this line.
@@ -42,8 +42,7 @@ pub trait Watch {
         iteration: u64,
         kind: AccessKind,
     ) -> Result<(), Memory>
-        requires { place < places self.old }
-        ensures stands { OnOk result
+        ensures stands { place < places self.old → OnOk result
             ((line : ℕ) (ts : List Touch) → stands_for self.old line ts →
             stands_for self.new line (ts ++ touch place iteration kind ∷ [])) }
         ensures places { places self.new ≡ places self.old };
