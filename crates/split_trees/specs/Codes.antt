@@ -7,7 +7,7 @@ use Rattle.fl_types.specs.Kinds.{is_index_kind, kind_of_expression, is_well_kind
 use Rattle.meaning.specs.Fitting.{names_at}
 use Rattle.store_core.specs.declared.layout.Shape.{Shape}
 use Rattle.resolved.specs.SlotTables.{Names, kind_at, table_site}
-use Rattle.sweep_trees.specs.Split.{SpotTree, IndexTree, IndexTrees, RingTree, widened, ring_tree, index_tree, TestTree}
+use Rattle.sweep_trees.specs.Split.{SpotTree, scalar, element, elements, IndexTree, IndexTrees, RingTree, widened, ring_tree, index_tree, TestTree}
 use Rattle.sweep_trees.specs.Standing.{spot_back, index_back, indices_back, ring_back, test_back, is_spot_fit, is_index_fit, are_indices_fit, is_widened, is_ring_fit, is_test_fit}
 use Rattle.split_trees.specs.declared.code.Code.{Code}
 use Rattle.split_trees.specs.declared.code.Code.TheVariants as code
@@ -58,8 +58,14 @@ pub record StandsFor (names : Names) (flags : List Bool) (e : Expression) (c : C
   pub fit : is_code_fit names flags c ≡ true
   pub kind : code_kind c ≡ table_kind names e
 
+abbrev pub spot_slot : SpotTree → ℕ
+spot_slot (scalar slot place accessed) = slot
+spot_slot (element slot accessed i) = slot
+spot_slot (elements slot accessed is) = slot
+
 -- an occurrence fits where its slot's kind does
 pub record SpotStandsFor (names : Names) (flags : List Bool) (slot : ℕ) (p : Designator) (s : SpotTree) : Type 0 where
+  pub slot_is : spot_slot s ≡ slot
   pub back : spot_back names.0 s ≡ p
   pub fit : (of_kind : Kind → Bool) → of_kind (kind_at names.1 slot) ≡ true → is_spot_fit names flags of_kind s ≡ true
 

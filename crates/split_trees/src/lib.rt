@@ -6,4 +6,6 @@ mod nodes;
 mod split;
 
 pub use code::Code;
-pub use split::{split_condition, split_expression, split_index, split_place, split_ring};
+pub use split::{
+    is_marked, split_condition, split_expression, split_index, split_place, split_ring,
+};

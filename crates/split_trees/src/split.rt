@@ -18,11 +18,11 @@ use resolved::{ResolvedCond, ResolvedExpr, ResolvedPlace, SlotTable};
 use std::alloc::Global;
 use sweep_trees::{IndexCode, RingCode, Spot, TestCode};
 
-/// Whether the name of a slot makes accesses.
-fn is_accessed(accessed: &[bool], slot: usize) -> bool
-    ensures { result ≡ is_accessed_at accessed.now slot }
+/// Whether a slot is marked, as one whose name makes accesses is.
+pub fn is_marked(marks: &[bool], slot: usize) -> bool
+    ensures { result ≡ is_accessed_at marks.now slot }
 {
-    match accessed.get(slot) {
+    match marks.get(slot) {
         Some(flag) => *flag,
         None => false,
     }
@@ -115,7 +115,7 @@ fn scalar(table: &SlotTable, accessed: &[bool], slot: usize) -> Spot
         Some(place) => Spot::Scalar {
             slot,
             place,
-            accessed: is_accessed(accessed, slot),
+            accessed: is_marked(accessed, slot),
         },
         None => unreachable!(),
     }
@@ -127,7 +127,7 @@ fn element(accessed: &[bool], slot: usize, subscript: Boxed<IndexCode>) -> Spot
 {
     Spot::Element {
         slot,
-        accessed: is_accessed(accessed, slot),
+        accessed: is_marked(accessed, slot),
         subscript,
     }
 }
@@ -138,7 +138,7 @@ fn elements(accessed: &[bool], slot: usize, subscripts: Items<IndexCode>) -> Spo
 {
     Spot::Elements {
         slot,
-        accessed: is_accessed(accessed, slot),
+        accessed: is_marked(accessed, slot),
         subscripts,
     }
 }

@@ -17,20 +17,15 @@ use Rattle.meaning.specs.Sites.{Site, in_turn, in_iteration}
 use Rattle.meaning.specs.Statements.{private_names}
 use Rattle.resolved.specs.SlotTables.{Names, kind_at}
 use Rattle.resolved.specs.ResolvedExprs.{slot_name}
-use Rattle.sweep_trees.specs.Split.{SpotTree, scalar, element, elements, IndexTree}
+use Rattle.sweep_trees.specs.Split.{SpotTree, IndexTree}
 use Rattle.sweep_trees.specs.Standing.{ring_back, is_ring_fit}
-use Rattle.split_trees.specs.Codes.{CodeTree, code_kind, StandsFor, SpotStandsFor, IndexStandsFor, TestStandsFor}
+use Rattle.split_trees.specs.Codes.{CodeTree, code_kind, spot_slot, StandsFor, SpotStandsFor, IndexStandsFor, TestStandsFor}
 use Rattle.sweep_steps.specs.declared.step.PrivateScalar.{PrivateScalar}
 use Rattle.sweep_steps.specs.Steps.{TermTree, HeadTree, StoreTree, assign, update, AroundTree, in_turns, in_iterations, StepTree, store_step, if_step, loop_step, StepTrees, no_steps, step, ArmTrees, no_step_arms, step_arm}
 
 -- which slots' names make accesses at a site
 abbrev pub flags_at : Names → Site → List Bool
 flags_at names site = map (λ (s : Shape). site.accessed s.name) names.0
-
-abbrev pub spot_slot : SpotTree → ℕ
-spot_slot (scalar slot place accessed) = slot
-spot_slot (element slot accessed i) = slot
-spot_slot (elements slot accessed is) = slot
 
 -- the kind of an occurrence's name
 abbrev pub spot_kind : Names → SpotTree → Kind
