@@ -1,5 +1,5 @@
 -- What sweeps keep, one step after the other.
-use Rattle.std.specs.Prelude.{◌≡◌, ℕ, ◌+◌, ℤ, pos, Bool, true, false, ◌&&◌, if◌then◌else◌, List, [], ◌∷◌, ◌++◌, Option, Some, None, Result, Ok, Err, refl}
+use Rattle.std.specs.Prelude.{◌≡◌, ℕ, ◌+◌, ℤ, pos, Bool, true, false, ◌&&◌, if◌then◌else◌, List, [], ◌∷◌, ◌++◌, Option, Some, None, is_some, Result, Ok, Err, refl}
 use Rattle.std.proofs.Common.{ap, sym, subst, ◌∙◌}
 use Rattle.std.proofs.lemmas.List.{append_assoc}
 use Rattle.ring_core.specs.declared.index.IndexTrap.{IndexTrap}
@@ -77,7 +77,7 @@ still_exactly c (Err t) k h = still_stopped c (halt_of t) k h
 
 still_loaded : (c : Scene) (k : Kept) (slot p : ℕ) (accessed : Bool) (v : Option Value) → goes_on k.seen ≡ false → loaded_cell c k slot p accessed v ≡ k
 still_loaded c k slot p accessed None h = still_stopped c (Unset slot) k h
-still_loaded c k slot p accessed (Some v) h = by_flag (accessed && c.within)
+still_loaded c k slot p accessed (Some v) h = by_flag (accessed && is_some c.around)
   where
     by_flag : (b : Bool) → (if b then touched_by c k p else k) ≡ k
     by_flag true = still c.judge c.limits k (tells (touches (record { place = p; iteration = c.iteration; kind = Read })) ∷ []) h
@@ -132,12 +132,12 @@ comes_touched c k site kd x true p v e h = rw e record {
 }
 comes_touched c k site kd x false p v e h = rw e (comes_ran c k (IsRead kd) v (word_of (Some v)) (refl, h))
 
-comes_cell : (c : Scene) (k : Kept) (site : Site) (kd : Kind) (slot : ℕ) (accessed : Bool) (p : ℕ) (cell : Option Value) → site.accessed (slot_name c.names.0 slot) ≡ (accessed && c.within) → HoldsKind kd cell
+comes_cell : (c : Scene) (k : Kept) (site : Site) (kd : Kind) (slot : ℕ) (accessed : Bool) (p : ℕ) (cell : Option Value) → site.accessed (slot_name c.names.0 slot) ≡ (accessed && is_some c.around) → HoldsKind kd cell
     → Comes c k (read_cell site (slot_name c.names.0 slot) p cell) (IsRead kd) (ran (word_of cell) (loaded_cell c k slot p accessed cell))
 comes_cell c k site kd slot accessed p None e h = comes_stop c k (IsRead kd) (Unset slot) _ 0 refl
-comes_cell c k site kd slot accessed p (Some v) e h = comes_touched c k site kd (slot_name c.names.0 slot) (accessed && c.within) p v e h
+comes_cell c k site kd slot accessed p (Some v) e h = comes_touched c k site kd (slot_name c.names.0 slot) (accessed && is_some c.around) p v e h
 
-pub comes_load : (c : Scene) (k : Kept) (site : Site) (cells : Cells) (kd : Kind) (slot : ℕ) (accessed : Bool) (o : Option ℕ) → k.cells ≡ cells → site.accessed (slot_name c.names.0 slot) ≡ (accessed && c.within)
+pub comes_load : (c : Scene) (k : Kept) (site : Site) (cells : Cells) (kd : Kind) (slot : ℕ) (accessed : Bool) (o : Option ℕ) → k.cells ≡ cells → site.accessed (slot_name c.names.0 slot) ≡ (accessed && is_some c.around)
     → ((p : ℕ) → o ≡ Some p → HoldsKind kd (content cells p))
     → Comes c k (read_place site cells (slot_name c.names.0 slot) o) (IsRead kd) (load_at (told_by c) slot accessed o k)
 comes_load c k site cells kd slot accessed None q e h = comes_stop c k (IsRead kd) (Bounds slot) _ 0 refl

@@ -1,5 +1,5 @@
 -- By induction on split trees: what evaluations keep, and the values that their numbers stand for.
-use Rattle.std.specs.Prelude.{◌≡◌, ℕ, zero, suc, ◌<◌, ◌^◌, ◌%◌, ℤ, pos, negsuc, Bool, true, false, not, ◌&&◌, ◌||◌, if◌then◌else◌, nat_lt, nat_eq, List, [], ◌∷◌, length, Option, Some, None, Result, Ok, Err, int_lt, int_le, neg_ℤ, refl}
+use Rattle.std.specs.Prelude.{◌≡◌, ℕ, zero, suc, ◌<◌, ◌^◌, ◌%◌, ℤ, pos, negsuc, Bool, true, false, not, ◌&&◌, ◌||◌, if◌then◌else◌, nat_lt, nat_eq, List, [], ◌∷◌, length, Option, Some, None, is_some, Result, Ok, Err, int_lt, int_le, neg_ℤ, refl}
 use Rattle.std.specs.Int.{w32, w64, cast_signed, cast_unsigned, int_pow}
 use Rattle.std.proofs.Common.{ap, sym, subst, ◌∙◌, arith}
 use Rattle.std.proofs.lemmas.Bool.{and_parts}
@@ -124,7 +124,7 @@ exact_number z h = rw h refl
 record IsAt (c : Scene) (site : Site) (of_kind : Kind → Bool) (slot : ℕ) (accessed : Bool) : Type 0 where
   below : slot < length c.names.0
   kinded : of_kind (kind_of site (slot_name c.names.0 slot)) ≡ true
-  access : site.accessed (slot_name c.names.0 slot) ≡ (accessed && c.within)
+  access : site.accessed (slot_name c.names.0 slot) ≡ (accessed && is_some c.around)
 
 same_flags : (a b : Bool) → same_flag a b ≡ true → b ≡ a
 same_flags true true h = refl
@@ -135,7 +135,7 @@ same_flags false false h = refl
 slot_below : (a b : ℕ) → nat_lt a b ≡ true → a < b
 slot_below a b h = grind (arith, nat_tests)
 
-is_at : (c : Scene) (site : Site) (flags : List Bool) → IsSite site c.names flags c.within → (of_kind : Kind → Bool) (slot : ℕ) (accessed : Bool) → is_slot c.names flags of_kind slot accessed ≡ true → IsAt c site of_kind slot accessed
+is_at : (c : Scene) (site : Site) (flags : List Bool) → IsSite site c.names flags (is_some c.around) → (of_kind : Kind → Bool) (slot : ℕ) (accessed : Bool) → is_slot c.names flags of_kind slot accessed ≡ true → IsAt c site of_kind slot accessed
 is_at c site flags s of_kind slot accessed h =
     let p = and_parts (nat_lt slot (length c.names.0)) (of_kind (kind_at c.names.1 slot) && same_flag accessed (is_accessed_at flags slot)) h in
     let q = and_parts (of_kind (kind_at c.names.1 slot)) (same_flag accessed (is_accessed_at flags slot)) p.1 in
@@ -143,14 +143,14 @@ is_at c site flags s of_kind slot accessed h =
     record {
       below = b;
       kinded = ap of_kind (s.kinds slot b) ∙ q.0;
-      access = s.accesses slot b ∙ ap (λ (f : Bool). f && c.within) (same_flags accessed (is_accessed_at flags slot) q.1);
+      access = s.accesses slot b ∙ ap (λ (f : Bool). f && is_some c.around) (same_flags accessed (is_accessed_at flags slot) q.1);
     }
 
 place_found : (o : Option ℕ) (p : ℕ) → is_place o p ≡ true → o ≡ Some p
 place_found None p h = cc
 place_found (Some q) p h = let e : q ≡ p = grind (arith, nat_tests) in ap Some e
 
-placed : (c : Scene) (site : Site) (flags : List Bool) → IsSite site c.names flags c.within → (slot : ℕ) → slot < length c.names.0 → (zs : List ℤ)
+placed : (c : Scene) (site : Site) (flags : List Bool) → IsSite site c.names flags (is_some c.around) → (slot : ℕ) → slot < length c.names.0 → (zs : List ℤ)
     → place_in_slot c.names.0 slot zs ≡ place_of site (slot_name c.names.0 slot) zs
 placed c site flags s slot b zs = place_by_slot c.names slot zs b ∙ ap (λ ks. first_at (same_key (slot_name c.names.0 slot, zs)) ks) (sym s.keys)
 
@@ -243,7 +243,7 @@ over_arguments {A = A} {B = B} c site cells a b f R S Q m n g d e sn s h =
 -- ---- a tree over fitting cells
 
 record Over (c : Scene) (site : Site) (flags : List Bool) (cells : Cells) : Type 0 where
-  site_is : IsSite site c.names flags c.within
+  site_is : IsSite site c.names flags (is_some c.around)
   fits : Fits site cells
 
 abbrev OverIndex : Scene → Site → Cells → IndexTree → Type 0
@@ -290,7 +290,7 @@ over_read c site flags cells o of_kind slot accessed b vs =
     λ k e. comes_load c k site cells (kind_of site (slot_name c.names.0 slot)) slot accessed (place_of site (slot_name c.names.0 slot) (whole_numbers vs)) e b.access
     (λ p q. fits_at site site.keys cells (slot_name c.names.0 slot) (whole_numbers vs) p o.fits q)
 
-spot_at : (c : Scene) (site : Site) (flags : List Bool) → IsSite site c.names flags c.within → (of_kind : Kind → Bool) (p : SpotTree) → is_spot_fit c.names flags of_kind p ≡ true → IsAt c site of_kind (spot_slot p) (is_accessed p)
+spot_at : (c : Scene) (site : Site) (flags : List Bool) → IsSite site c.names flags (is_some c.around) → (of_kind : Kind → Bool) (p : SpotTree) → is_spot_fit c.names flags of_kind p ≡ true → IsAt c site of_kind (spot_slot p) (is_accessed p)
 spot_at c site flags s of_kind (scalar slot place accessed) h = is_at c site flags s of_kind slot accessed (and_parts (is_slot c.names flags of_kind slot accessed) (is_place (place_in_slot c.names.0 slot []) place) h).0
 spot_at c site flags s of_kind (element slot accessed i) h = is_at c site flags s of_kind slot accessed (and_parts (is_slot c.names flags of_kind slot accessed) (is_index_fit c.names flags i) h).0
 spot_at c site flags s of_kind (elements slot accessed is) h = is_at c site flags s of_kind slot accessed (and_parts (is_slot c.names flags of_kind slot accessed) (are_indices_fit c.names flags is) h).0
@@ -551,7 +551,7 @@ pub record ComesBy (c : Scene) (site : Site) (flags : List Bool) (k : Kept) : Ty
   pub of_test : (a : TestTree) → is_test_fit c.names flags a ≡ true
       → Comes c k (holds (test_back c.names.0 a) site k.cells) IsSame (test_value (told_by c) c.names a k)
 
-pub evaluated_at : (c : Scene) (site : Site) (flags : List Bool) → IsSite site c.names flags c.within → (k : Kept) → Fits site k.cells → ComesBy c site flags k
+pub evaluated_at : (c : Scene) (site : Site) (flags : List Bool) → IsSite site c.names flags (is_some c.around) → (k : Kept) → Fits site k.cells → ComesBy c site flags k
 evaluated_at c site flags s k f =
     let o : Over c site flags k.cells = record { site_is = s; fits = f } in
     record {

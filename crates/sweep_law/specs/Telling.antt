@@ -1,5 +1,5 @@
 -- What a forward sweep keeps of loads and stops, and the law that it is what the meaning tells.
-use Rattle.std.specs.Prelude.{◌≡◌, ℕ, ◌<◌, ℤ, Bool, true, false, ◌&&◌, if◌then◌else◌, List, length, Option, Some, None, Result, Ok, Err}
+use Rattle.std.specs.Prelude.{◌≡◌, ℕ, ◌<◌, ℤ, Bool, true, false, ◌&&◌, if◌then◌else◌, List, length, Option, Some, None, is_some, Result, Ok, Err}
 use Rattle.fl_types.specs.declared.access.AccessKind.TheVariants.{Read}
 use Rattle.store_core.specs.Keys.{keys_of}
 use Rattle.store_core.specs.Tapes.{Item, IterationLists}
@@ -23,14 +23,14 @@ use Rattle.sweep_trees.specs.Standing.{is_accessed_at, spot_back, index_back, ri
 use Rattle.fl_ast.specs.declared.kind.Kind.{Kind}
 use Rattle.sweep_evaluation.specs.Machine.{Ran, Told, spot_place, index_value, ring_value, test_value}
 
--- where an evaluation stands: what judges loops, the limits, the names by slot, the line of its statement, whether a parallel loop is
--- around it, and the iteration that is
+-- where an evaluation stands: what judges loops, the limits, the names by slot, the line of its statement, the line of the
+-- parallel loop around it, and the iteration
 pub record Scene : Type 0 where
   pub judge : Judge
   pub limits : Limits
   pub names : Names
   pub line : ℕ
-  pub within : Bool
+  pub around : Option ℕ
   pub iteration : ℕ
 
 abbrev pub stopped_by : Scene → Kept → Halt → Kept
@@ -41,7 +41,7 @@ touched_by c k p = with_note c.judge c.limits k (tells (touches (record { place 
 
 abbrev pub loaded_cell : Scene → Kept → (slot place : ℕ) → (accessed : Bool) → Option Value → Kept
 loaded_cell c k slot p accessed None = stopped_by c k (Unset slot)
-loaded_cell c k slot p accessed (Some v) = if accessed && c.within then touched_by c k p else k
+loaded_cell c k slot p accessed (Some v) = if accessed && is_some c.around then touched_by c k p else k
 
 -- the tape of a forward sweep: its items, the top first, and in a parallel loop the tapes of the iterations so far, to the last of which words go
 pub record ForwardTape : Type 0 where
@@ -108,4 +108,4 @@ pub record ComesAt (c : Scene) (site : Site) (flags : List Bool) (tape : Forward
       → Comes c tape k (holds (test_back c.names.0 a) site k.cells) IsSame (test_value told c.names a (standing c tape k))
 
 abbrev pub EvaluationsAreTold : Type 0
-EvaluationsAreTold = (c : Scene) (site : Site) (flags : List Bool) → IsSite site c.names flags c.within → (tape : ForwardTape) (k : Kept) → Fits site k.cells → ComesAt c site flags tape k
+EvaluationsAreTold = (c : Scene) (site : Site) (flags : List Bool) → IsSite site c.names flags (is_some c.around) → (tape : ForwardTape) (k : Kept) → Fits site k.cells → ComesAt c site flags tape k
