@@ -99,8 +99,11 @@ touched_holds r watched after places placed judge s p kind h stop below around t
     let o = open_seen s.scene.names r watched s.kept.seen h.seen stop in
     let t : Touch = record { place = p; iteration = s.scene.iteration; kind = kind } in
     let q : p < length s.kept.cells = subst (λ (n : ℕ). p < n) (ap length (sym h.cells)) there in
-    rw (taken_branch (is_some s.scene.around && nat_lt p (length s.kept.cells)) (noted s (tells (touches t))) s (inside_test s.scene.around p (length s.kept.cells) (ap is_some h.around ∙ around) q),
-      noted_event s o.seen (touches t) o.is, touched_seen s.scene.judge s.scene.limits o.seen t r h.limits o.touches below) record {
+    rw (
+      taken_branch (is_some s.scene.around && nat_lt p (length s.kept.cells)) (noted s (tells (touches t))) s (inside_test s.scene.around p (length s.kept.cells) (ap is_some h.around ∙ around) q),
+      noted_event s o.seen (touches t) o.is,
+      touched_seen s.scene.judge s.scene.limits o.seen t r h.limits o.touches below,
+    ) record {
       judged = h.judged;
       limits = h.limits;
       line = h.line;
@@ -109,9 +112,14 @@ touched_holds r watched after places placed judge s p kind h stop below around t
       cells = h.cells;
       watches = same ∙ h.watches;
       ticks = none_more s.kept.ticks (ticks_of r) h.ticks;
-      seen = (stop, o.statements, one_more o.seen.touches r.touches o.touches, o.words,
-          since_more r.around watched after o.seen.since t around
-          (λ line w. rw h.iteration (told (subst (λ (n : ℕ). p < n) (sym h.watches) there) line o.seen.since w)) o.since);
+      seen = (
+        stop,
+        o.statements,
+        one_more o.seen.touches r.touches o.touches,
+        o.words,
+        since_more r.around watched after o.seen.since t around
+            (λ line w. rw h.iteration (told (subst (λ (n : ℕ). p < n) (sym h.watches) there) line o.seen.since w)) o.since,
+      );
       items = h.items;
       running = h.running;
     }

@@ -241,11 +241,7 @@ fn still(content: Option<Value>) -> Option<Value>
 }
 
 /// A word more, in a parallel loop on the tape of the last iteration.
-fn push_word(
-    tape: &mut Tape,
-    running: &mut Option<IterationTapes>,
-    word: u64,
-) -> Result<(), Memory>
+fn push_word(tape: &mut Tape, running: &mut Option<IterationTapes>, word: u64) -> Result<(), Memory>
     ensures { OnOk result (record { items = tape.new; running = running.new } ≡ with_word_on (record { items = tape.old; running = running.old }) word) }
 {
     match running {

@@ -119,10 +119,14 @@ pub fn locate<A: Access>(access: &mut A, table: &SlotTable, spot: &Spot) -> Opti
     match spot {
         Spot::Scalar { place, .. } => Some(*place),
         Spot::Element {
-            slot, subscript, ..
+            slot,
+            subscript,
+            ..
         } => element_place(access, table, *slot, subscript.get()),
         Spot::Elements {
-            slot, subscripts, ..
+            slot,
+            subscripts,
+            ..
         } => elements_place(access, table, *slot, subscripts.as_slice()),
     }
 }

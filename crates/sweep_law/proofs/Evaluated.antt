@@ -219,7 +219,7 @@ over_argument : {A B : Type 0} (c : Scene) (site : Site) (cells : Cells) (a : Ex
 over_argument c site cells a f R Q m g d s h =
     over_one c cells (values_of (one a) site cells) (λ vs. lift (call_result site.width f vs)) (λ vs x. (v : Value) × ((vs ≡ v ∷ []) × R v x)) Q m g
     (over_one c cells (value_of a site cells) (λ v. values_of no_expressions site cells >>= (λ vs. pure (v ∷ vs))) R (λ vs x. (v : Value) × ((vs ≡ v ∷ []) × R v x)) m (λ x. ran x) d (λ x. still_ran x)
-      (λ v x r k e. record { told = refl; cells = refl; value = λ g. (v ∷ [], (refl, (v, (refl, r)))) }))
+    (λ v x r k e. record { told = refl; cells = refl; value = λ g. (v ∷ [], (refl, (v, (refl, r)))) }))
     s (λ vs x r. rw r.1.0 (h r.0 x r.1.1))
 
 over_arguments : {A B C : Type 0} (c : Scene) (site : Site) (cells : Cells) (a b : Expression) (f : Fun) (R : Value → A → Type 0) (S : Value → B → Type 0) (Q : Value → C → Type 0)
@@ -230,15 +230,14 @@ over_arguments : {A B C : Type 0} (c : Scene) (site : Site) (cells : Cells) (a b
 over_arguments {A = A} {B = B} c site cells a b f R S Q m n g d e sn s h =
     over_one c cells (values_of (two a b) site cells) (λ vs. lift (call_result site.width f vs)) Both Q (λ k. m k to (λ x t. n t to (λ y. ran (x, y)))) (λ (p : A × B). g p.0 p.1)
     (over_one c cells (value_of a site cells) (λ v. values_of (one b) site cells >>= (λ vs. pure (v ∷ vs))) R Both m (λ x t. n t to (λ y. ran (x, y))) d (λ x. still_to {B = A × B} n (λ y. ran (x, y)) sn (λ y. still_ran {A = A × B} (x, y)))
-      (λ v x r. over_one c cells (values_of (one b) site cells) (λ vs. pure (v ∷ vs)) (λ vs y. (w : Value) × ((vs ≡ w ∷ []) × S w y)) Both n (λ y. ran (x, y))
-        (over_one c cells (value_of b site cells) (λ w. values_of no_expressions site cells >>= (λ vs. pure (w ∷ vs))) S (λ vs y. (w : Value) × ((vs ≡ w ∷ []) × S w y)) n (λ y. ran y) e (λ y. still_ran y)
-          (λ w y q k i. record { told = refl; cells = refl; value = λ g. (w ∷ [], (refl, (w, (refl, q)))) }))
-        (λ y. still_ran {A = A × B} (x, y)) (λ vs y q. over_ran c cells Both (v ∷ vs) (x, y) (v, q.0, ap (λ ws. v ∷ ws) q.1.0, r, q.1.1))))
+    (λ v x r. over_one c cells (values_of (one b) site cells) (λ vs. pure (v ∷ vs)) (λ vs y. (w : Value) × ((vs ≡ w ∷ []) × S w y)) Both n (λ y. ran (x, y))
+    (over_one c cells (value_of b site cells) (λ w. values_of no_expressions site cells >>= (λ vs. pure (w ∷ vs))) S (λ vs y. (w : Value) × ((vs ≡ w ∷ []) × S w y)) n (λ y. ran y) e (λ y. still_ran y)
+    (λ w y q k i. record { told = refl; cells = refl; value = λ g. (w ∷ [], (refl, (w, (refl, q)))) }))
+    (λ y. still_ran {A = A × B} (x, y)) (λ vs y q. over_ran c cells Both (v ∷ vs) (x, y) (v, q.0, ap (λ ws. v ∷ ws) q.1.0, r, q.1.1))))
     (λ p. s p.0 p.1) (λ vs p r. rw r.2 (h r.0 r.1 p.0 p.1 r.3 r.4))
   where
     Both : List Value → A × B → Type 0
     Both vs p = (v : Value) × (w : Value) × (vs ≡ v ∷ w ∷ []) × R v p.0 × S w p.1
-
 
 -- ---- a tree over fitting cells
 

@@ -26,12 +26,12 @@ returns g c =
     let e : content c.args.self.now.run.cells.items c.args.place ≡ Some v.0 = sym q ∙ v.1 in
     let x : c.word_of.result ≡ Rattle.meaning.specs.Sites.word_of (Some v.0) = c.word_of.ensures ∙ ap Rattle.meaning.specs.Sites.word_of v.1 in
     elim c.if-accessed.branch [
-      then-accessed w ↦ rw (w.self-is, w.if-accessed.true) record {
+      | then-accessed w ↦ rw (w.self-is, w.if-accessed.true) record {
         before = w.touch.ensures.was;
         runs = does_touched c.args.self.now.run w.touch.new.self.run (g.W.Watch.stands_for c.args.self.now.watch) (g.W.Watch.stands_for w.touch.new.self.watch) (g.W.Watch.places c.args.self.now.watch) (g.W.Watch.places w.touch.new.self.watch)
             g.W.Watch.judge c.args.slot c.args.place v.0 c.word_of.result e x w.touch.ensures;
       }
-    | else-accessed w ↦ rw (w.self-is, w.if-accessed.false) record {
+      | else-accessed w ↦ rw (w.self-is, w.if-accessed.false) record {
         before = λ l. l;
         runs = λ l. does_untouched c.args.self.now.run (g.W.Watch.stands_for c.args.self.now.watch) (g.W.Watch.places c.args.self.now.watch) g.W.Watch.judge c.args.slot c.args.place v.0 c.word_of.result e x;
       }
