@@ -17,9 +17,9 @@ use resolved::{ResolvedExpr, ResolvedHead, SlotTable};
 use ring_core::Index;
 use std::alloc::Global;
 
-/// How many steps go into a distance.
+/// How many steps go into a distance, none where they lead away from it.
 #[tactic(auto, using(crate::proofs::Counts::counts))]
-fn turn_count(distance: i64, step: i64) -> u64
+pub fn turn_count(distance: i64, step: i64) -> u64
     requires { step ≢ pos 0 }
     ensures { result ≡ clipped (int_div distance step) }
 {
@@ -122,7 +122,7 @@ fn narrow(value: i128) -> i32
 }
 
 /// The value of a loop's variable in a turn, from 0.
-fn value_in(first: i32, step: i32, turn: u64) -> i32
+pub fn value_in(first: i32, step: i32, turn: u64) -> i32
     requires { IsIndex (first +ℤ (pos turn *ℤ step)) }
     ensures { result ≡ first +ℤ (pos turn *ℤ step) }
 {

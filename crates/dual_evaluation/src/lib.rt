@@ -7,6 +7,6 @@ mod evaluator;
 mod stop;
 
 pub use assignment::assign;
-pub use bounds::{begin_turn, turns_of};
+pub use bounds::{begin_turn, turn_count, turns_of, value_in};
 pub use evaluator::{evaluate, holds};
 pub use stop::{EvalStop, Halt, cause_of};
