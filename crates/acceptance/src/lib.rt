@@ -16,5 +16,6 @@ pub use derivation::accept;
 pub use distinct::{is_distinct, is_second_distinct};
 pub use fact::serves_pair;
 pub use knowledge::{LoopKnowledge, numbered};
+pub use line_form::is_same;
 pub use range::range_holds;
 pub use residue::has_residue;

@@ -17,9 +17,10 @@ mod sum;
 mod walk;
 mod written;
 
+pub use comparison::forms_order;
 pub use difference::{Extent, FormSum, subtract};
 pub use form::{Atom, Form, Side};
-pub use linear::form_of_atom;
+pub use linear::{constant_form, form_of_atom};
 pub use scene::{Counter, Scene};
 pub use sum::{exact_sum, product};
 pub use walk::forms_of_accesses;

@@ -1,0 +1,5 @@
+pub mod LeastForms
+pub mod GrownLines
+pub mod FactCases
+pub mod ShownForms
+pub mod LeastReads

@@ -1,0 +1,5 @@
+pub mod Aparts
+pub mod FactRules
+pub mod FormTests
+pub mod Grown
+pub mod ShownLines
