@@ -1,6 +1,6 @@
 //! Lines that show forms to be 0, elements' differences included.
 
-ghost use Rattle.std.specs.Prelude.{◌≡◌, suc, length, map, option_map, Some, IfOk};
+ghost use Rattle.std.specs.Prelude.{◌≡◌, suc, length, map, if◌then◌else◌, option_map, Some, None, IfOk};
 ghost use Rattle.index_forms.specs.Seen.{form_tree};
 ghost use Rattle.index_forms.specs.Listed.{forms_seen};
 ghost use Rattle.index_forms.specs.Sums.{differences as differences_lem};
@@ -8,6 +8,7 @@ ghost use Rattle.index_knowledge.specs.Told.{pair_told};
 ghost use Rattle.certificate_rules.specs.Plain.{lines_for, shown_alone, shown_cong, shown_elements, shown as shown_lem, all_shown};
 ghost use Rattle.acceptance.specs.Told.{survey_of, line_told};
 ghost use Rattle.disjoint_prover.specs.Aparts.{apart_told};
+ghost use Rattle.disjoint_prover.specs.Grown.{grown};
 ghost use Rattle.disjoint_prover.specs.ShownLines.{with_last, behind, with_lasts, all_behind};
 
 use crate::elements::{Apart, elements_of, least_read};
@@ -19,6 +20,20 @@ use fl_base::{Items, Memory};
 use index_forms::Form;
 use index_knowledge::{Pair, differences};
 use std::alloc::Global;
+
+/// Adds a line for each difference of subscripts; answers whether each has one.
+fn push_differences(
+    alloc: Global,
+    pair: &Pair,
+    ones: &[Form],
+    twos: &[Form],
+    lines: &mut Items<Line>,
+) -> Result<bool, Memory>
+    ensures { IfOk result (λ found. (if found then Some (map line_told lines.new) else None) ≡ grown (map line_told lines.old) (lines_for (pair_told pair.now) (differences_lem (forms_seen ones.now) (forms_seen twos.now)))) }
+{
+    let differences = differences(alloc, ones, twos)?;
+    Ok(push_lines(alloc, pair, differences.as_slice(), lines)?)
+}
 
 fn push_cong(
     alloc: Global,
@@ -33,8 +48,7 @@ fn push_cong(
 {
     let from = number_at(lines.len())?;
     let before = lines.len();
-    let differences = differences(alloc, apart.ones, apart.twos)?;
-    if !push_lines(alloc, pair, differences.as_slice(), lines)? {
+    if !push_differences(alloc, pair, apart.ones, apart.twos, lines)? {
         return Ok(None);
     }
     let last = number_at(lines.len())?;
