@@ -1,16 +1,13 @@
 //! Directives from their texts.
 
-use crate::texts::push_bytes;
+use crate::texts::{Shown, expect, push_bytes};
 use fl_ast::{Directive, ScheduleKind};
 use fl_base::{Items, Name};
 use fl_lexer::lex;
 use omp_clauses::{ClauseError, DirectiveLine, read_directive};
-use std::alloc::{AllocError, Global};
+use std::alloc::Global;
 use std::fmt::Write;
 use std::process::Abort;
-use std::test::Fail;
-
-type Shown = Result<(), AllocError>;
 
 fn show_names(out: &mut String, word: &str, names: &Items<Name>) -> Shown {
     if names.is_empty() {
@@ -64,11 +61,11 @@ fn show_numbers(out: &mut String, d: &Directive) -> Shown {
 fn show_directive(out: &mut String, d: &Directive) -> Shown {
     let line = d.line;
     write!(out, "loop {line}")?;
-    show_names(out, "privates", &d.privates)?;
-    show_names(out, "firsts", &d.firsts)?;
-    show_names(out, "shareds", &d.shareds)?;
-    show_names(out, "pluses", &d.pluses)?;
-    show_numbers(out, d)
+    show_names(out, "privates", &d.privates)
+        .and(show_names(out, "firsts", &d.firsts))
+        .and(show_names(out, "shareds", &d.shareds))
+        .and(show_names(out, "pluses", &d.pluses))
+        .and(show_numbers(out, d))
 }
 
 fn show_word(out: &mut String, cause: &str, line: u32, word: &Name) -> Shown {
@@ -110,7 +107,7 @@ fn tell(out: &mut String, alloc: Global, text: &str) -> Shown {
 fn expect_told<R: Abort>(rt: &R, alloc: Global, text: &str, wanted: &str) -> Shown {
     let mut got = String::new(alloc);
     tell(&mut got, alloc, text)?;
-    assert_eq!(rt; got.as_str(), wanted, "{text}");
+    expect(rt, got.as_str(), wanted, text.as_bytes());
     Ok(())
 }
 
@@ -217,20 +214,28 @@ fn expect_clauses<R: Abort>(rt: &R, alloc: Global, clauses: &str, wanted: &str) 
     expect_told(rt, alloc, text.as_str(), wanted)
 }
 
-#[test]
-fn clauses_are_read(rt: HostRuntime) -> Result<(), Fail> {
-    for (clauses, wanted) in &CLAUSES {
-        expect_clauses(&rt, rt.alloc(), clauses, wanted)?;
+fn expect_all_clauses<R: Abort>(rt: &R, alloc: Global, rows: &[(&str, &str)]) -> Shown {
+    for (clauses, wanted) in rows {
+        expect_clauses(rt, alloc, clauses, wanted)?;
+    }
+    Ok(())
+}
+
+fn expect_all<R: Abort>(rt: &R, alloc: Global, rows: &[(&str, &str)]) -> Shown {
+    for (text, wanted) in rows {
+        expect_told(rt, alloc, text, wanted)?;
     }
     Ok(())
 }
 
 #[test]
-fn directives_are_read(rt: HostRuntime) -> Result<(), Fail> {
-    for (text, wanted) in &LINES {
-        expect_told(&rt, rt.alloc(), text, wanted)?;
-    }
-    Ok(())
+fn clauses_are_read(rt: HostRuntime) -> Shown {
+    expect_all_clauses(&rt, rt.alloc(), &CLAUSES)
+}
+
+#[test]
+fn directives_are_read(rt: HostRuntime) -> Shown {
+    expect_all(&rt, rt.alloc(), &LINES)
 }
 
 /// A directive that lists so many names, over as many lines.
@@ -243,9 +248,8 @@ fn push_names(text: &mut String, count: u32, last: &str) -> Shown {
 }
 
 #[test]
-fn many_names_are_read(rt: HostRuntime) -> Result<(), Fail> {
+fn many_names_are_read(rt: HostRuntime) -> Shown {
     let mut text = String::new(rt.alloc());
     push_names(&mut text, 100_000, "n77")?;
-    expect_told(&rt, rt.alloc(), text.as_str(), "twice 100002 n77")?;
-    Ok(())
+    expect_told(&rt, rt.alloc(), text.as_str(), "twice 100002 n77")
 }

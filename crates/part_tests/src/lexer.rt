@@ -1,11 +1,8 @@
-use crate::texts::push_times;
+use crate::texts::{Shown, expect, push_times};
 use fl_lexer::{LexError, Token, TokenKind, lex};
-use std::alloc::{AllocError, Global};
+use std::alloc::Global;
 use std::fmt::Write;
 use std::process::Abort;
-use std::test::Fail;
-
-type Shown = Result<(), AllocError>;
 
 fn kind_letter(kind: TokenKind) -> char {
     match kind {
@@ -68,7 +65,7 @@ fn tell(out: &mut String, alloc: Global, text: &[u8]) -> Shown {
 fn expect_told<R: Abort>(rt: &R, alloc: Global, text: &[u8], wanted: &str) -> Shown {
     let mut got = String::new(alloc);
     tell(&mut got, alloc, text)?;
-    assert_eq!(rt; got.as_str(), wanted, "{text:?}");
+    expect(rt, got.as_str(), wanted, text);
     Ok(())
 }
 
@@ -211,27 +208,28 @@ static LIMITS: [Limit; 22] = [
     ("a", "b", 2000, "", " long name 1"),
 ];
 
-#[test]
-fn lines_are_read(rt: HostRuntime) -> Result<(), Fail> {
-    for (text, wanted) in &LINES {
-        expect_told(&rt, rt.alloc(), text.as_bytes(), wanted)?;
+fn expect_all<R: Abort>(rt: &R, alloc: Global, rows: &[(&str, &str)]) -> Shown {
+    for (text, wanted) in rows {
+        expect_told(rt, alloc, text.as_bytes(), wanted)?;
     }
     Ok(())
 }
 
 #[test]
-fn tokens_are_read(rt: HostRuntime) -> Result<(), Fail> {
-    for (text, wanted) in &TOKENS {
-        expect_told(&rt, rt.alloc(), text.as_bytes(), wanted)?;
-    }
-    Ok(())
+fn lines_are_read(rt: HostRuntime) -> Shown {
+    expect_all(&rt, rt.alloc(), &LINES)
+}
+
+#[test]
+fn tokens_are_read(rt: HostRuntime) -> Shown {
+    expect_all(&rt, rt.alloc(), &TOKENS)
 }
 
 fn push_limit(text: &mut String, row: &Limit) -> Shown {
     let (front, middle, times, back, _) = row;
-    text.push_str(front)?;
-    push_times(text, middle, *times)?;
-    text.push_str(back)
+    text.push_str(front)
+        .and(push_times(text, middle, *times))
+        .and(text.push_str(back))
 }
 
 fn expect_limit<R: Abort>(rt: &R, alloc: Global, row: &Limit) -> Shown {
@@ -240,16 +238,19 @@ fn expect_limit<R: Abort>(rt: &R, alloc: Global, row: &Limit) -> Shown {
     expect_told(rt, alloc, text.as_bytes(), row.4)
 }
 
-#[test]
-fn limits_are_exact(rt: HostRuntime) -> Result<(), Fail> {
-    for row in &LIMITS {
-        expect_limit(&rt, rt.alloc(), row)?;
+fn expect_limits<R: Abort>(rt: &R, alloc: Global, rows: &[Limit]) -> Shown {
+    for row in rows {
+        expect_limit(rt, alloc, row)?;
     }
     Ok(())
 }
 
 #[test]
-fn a_comment_holds_any_bytes(rt: HostRuntime) -> Result<(), Fail> {
-    expect_told(&rt, rt.alloc(), b"! \xc3\xa9\n \xc3", " bad byte 2:2")?;
-    Ok(())
+fn limits_are_exact(rt: HostRuntime) -> Shown {
+    expect_limits(&rt, rt.alloc(), &LIMITS)
+}
+
+#[test]
+fn a_comment_holds_any_bytes(rt: HostRuntime) -> Shown {
+    expect_told(&rt, rt.alloc(), b"! \xc3\xa9\n \xc3", " bad byte 2:2")
 }

@@ -3,11 +3,19 @@
 #![tactic(auto)]
 
 #[cfg(test)]
+mod conditions;
+#[cfg(test)]
 mod data;
 #[cfg(test)]
 mod directives;
 #[cfg(test)]
+mod expressions;
+#[cfg(test)]
 mod lexer;
+#[cfg(test)]
+mod puts;
+#[cfg(test)]
+mod shown;
 #[cfg(test)]
 mod texts;
 #[cfg(test)]

@@ -1,6 +1,7 @@
 //! Conditions.
 
-use crate::shown::{Shown, show_cond, show_failure};
+use crate::shown::{show_cond, show_failure};
+use crate::texts::{Shown, expect, push_times};
 use fl_conditions::{Judged, cond};
 use fl_lexer::lex;
 use parsing::{Cursor, Failure};
@@ -44,7 +45,14 @@ fn expect_told<R: Abort>(
 ) -> Shown {
     let mut got = String::new(alloc);
     tell(&mut got, alloc, text, brackets, levels)?;
-    assert_eq!(rt; got.as_str(), wanted, "{text}");
+    expect(rt, got.as_str(), wanted, text.as_bytes());
+    Ok(())
+}
+
+fn expect_all<R: Abort>(rt: &R, alloc: Global, rows: &[(&str, &str)]) -> Shown {
+    for (text, wanted) in rows {
+        expect_told(rt, alloc, text, 256, 62, wanted)?;
+    }
     Ok(())
 }
 
@@ -107,14 +115,21 @@ static CONDITIONS: [(&str, &str); 34] = [
 
 #[test]
 fn conditions_are_read(rt: HostRuntime) -> Shown {
-    for (text, wanted) in &CONDITIONS {
-        expect_told(&rt, rt.alloc(), text, 256, 62, wanted)?;
+    expect_all(&rt, rt.alloc(), &CONDITIONS)
+}
+
+/// A text, how many brackets may open in it, how many levels stand beneath the root of a relation's operand, and what it is
+/// read as.
+type Limit = (&'static str, usize, u32, &'static str);
+
+fn expect_limits<R: Abort>(rt: &R, alloc: Global, rows: &[Limit]) -> Shown {
+    for (text, brackets, levels, wanted) in rows {
+        expect_told(rt, alloc, text, *brackets, *levels, wanted)?;
     }
     Ok(())
 }
 
-/// With so many brackets to open, and so many levels beneath the root of a relation's operand.
-static LIMITS: [(&str, usize, u32, &str); 17] = [
+static LIMITS: [Limit; 17] = [
     ("((a) < b)", 2, 62, "[< a b] 1"),
     ("((a) < b)", 1, 62, "deep 7"),
     ("(a < b)", 1, 62, "[< a b] 1"),
@@ -141,31 +156,21 @@ static LIMITS: [(&str, usize, u32, &str); 17] = [
 
 #[test]
 fn limits_are_kept(rt: HostRuntime) -> Shown {
-    for (text, brackets, levels, wanted) in &LIMITS {
-        expect_told(&rt, rt.alloc(), text, *brackets, *levels, wanted)?;
-    }
-    Ok(())
+    expect_limits(&rt, rt.alloc(), &LIMITS)
 }
 
-fn push_times(text: &mut String, bracket: char, times: u32) -> Shown {
-    for _time in 0..times {
-        text.push(bracket)?;
-    }
-    Ok(())
-}
-
-fn push_nested(text: &mut String, open: u32, middle: &str, close: u32) -> Shown {
-    push_times(text, '(', open)?;
-    text.push_str(middle)?;
-    push_times(text, ')', close)
+fn push_nested(text: &mut String, open: usize, middle: &str, close: usize) -> Shown {
+    push_times(text, "(", open)
+        .and(text.push_str(middle))
+        .and(push_times(text, ")", close))
 }
 
 fn expect_nested<R: Abort>(
     rt: &R,
     alloc: Global,
-    open: u32,
+    open: usize,
     middle: &str,
-    close: u32,
+    close: usize,
     wanted: &str,
 ) -> Shown {
     let mut text = String::new(alloc);
@@ -173,8 +178,17 @@ fn expect_nested<R: Abort>(
     expect_told(rt, alloc, text.as_str(), 256, 62, wanted)
 }
 
-/// Brackets before, a text, and brackets behind it.
-static NESTED: [(u32, &str, u32, &str); 4] = [
+/// Brackets before, a text, brackets behind it, and what it is read as.
+type Nested = (usize, &'static str, usize, &'static str);
+
+fn expect_all_nested<R: Abort>(rt: &R, alloc: Global, rows: &[Nested]) -> Shown {
+    for (open, middle, close, wanted) in rows {
+        expect_nested(rt, alloc, *open, middle, *close, wanted)?;
+    }
+    Ok(())
+}
+
+static NESTED: [Nested; 4] = [
     (256, "a", 256, "expected 1"),
     (256, "a < b", 256, "[< a b] 1"),
     (255, "(a) < b", 255, "[< a b] 1"),
@@ -183,8 +197,5 @@ static NESTED: [(u32, &str, u32, &str); 4] = [
 
 #[test]
 fn nested_brackets_are_read_once(rt: HostRuntime) -> Shown {
-    for (open, middle, close, wanted) in &NESTED {
-        expect_nested(&rt, rt.alloc(), *open, middle, *close, wanted)?;
-    }
-    Ok(())
+    expect_all_nested(&rt, rt.alloc(), &NESTED)
 }

@@ -1,22 +1,60 @@
 //! What programs are printed as.
 
-use fl_ast::{Directive, Expr, Name, Place, Program, Stmt};
-use fl_base::{Items, Memory};
+use crate::rows::{Shown, expect, push_bytes};
+use fl_ast::Program;
+use fl_base::Memory;
 use fl_lexer::lex;
-use fl_parser::parse;
+use fl_parser::{ParseError, parse};
 use fl_printer::print;
 use std::alloc::Global;
-use std::test::Fail;
+use std::fmt::Write;
+use std::process::Abort;
 
-/// What a text of a program is printed as, once read.
-fn told(alloc: Global, text: &[u8]) -> Result<String, Fail> {
-    if text.len() > 2_000_000_000 {
-        return Ok(String::new(alloc));
+fn show_printed(out: &mut String, printed: &Result<Vec<u8>, Memory>) -> Shown {
+    match printed {
+        Ok(bytes) => push_bytes(out, bytes),
+        Err(_) => out.push_str("memory"),
     }
-    let tokens = lex(alloc, text)?;
-    let program = parse(alloc, text, &tokens)?;
-    let printed = print(alloc, &program)?;
-    Ok(String::from_utf8(printed)?)
+}
+
+fn show(out: &mut String, alloc: Global, outcome: &Result<Program, ParseError>) -> Shown {
+    match outcome {
+        Ok(program) => show_printed(out, &print(alloc, program)),
+        Err(_) => out.push_str("not read"),
+    }
+}
+
+/// Shows what a text of a program is printed as, once read.
+fn tell(out: &mut String, alloc: Global, text: &str) -> Shown {
+    if text.len() > 2_000_000_000 {
+        return Ok(());
+    }
+    match lex(alloc, text.as_bytes()) {
+        Ok(tokens) => show(out, alloc, &parse(alloc, text.as_bytes(), &tokens)),
+        Err(_) => out.push_str("no tokens"),
+    }
+}
+
+fn expect_printed<R: Abort>(rt: &R, alloc: Global, text: &str, wanted: &str) -> Shown {
+    let mut told = String::new(alloc);
+    tell(&mut told, alloc, text)?;
+    expect(rt, told.as_str(), wanted, text);
+    Ok(())
+}
+
+fn expect_all_printed<R: Abort>(rt: &R, alloc: Global, rows: &[(&str, &str)]) -> Shown {
+    for (text, wanted) in rows {
+        expect_printed(rt, alloc, text, wanted)?;
+    }
+    Ok(())
+}
+
+/// What the rows' texts are printed as is printed as it stands.
+fn expect_all_alike<R: Abort>(rt: &R, alloc: Global, rows: &[(&str, &str)]) -> Shown {
+    for (_, text) in rows {
+        expect_printed(rt, alloc, text, text)?;
+    }
+    Ok(())
 }
 
 /// Texts, with what they are printed as. Those at the end have lines of 118 to 121 bytes and more, before they are broken.
@@ -80,76 +118,22 @@ static TEXTS: [(&str, &str); 14] = [
 ];
 
 #[test]
-fn texts_are_printed(rt: HostRuntime) -> Result<(), Fail> {
-    for (text, wanted) in &TEXTS {
-        let got = told(rt.alloc(), text.as_bytes())?;
-        assert_eq!(rt; got.as_str(), *wanted, "{text}");
-    }
-    Ok(())
+fn texts_are_printed(rt: HostRuntime) -> Shown {
+    expect_all_printed(&rt, rt.alloc(), &TEXTS)
 }
 
 #[test]
-fn what_is_printed_is_printed_alike(rt: HostRuntime) -> Result<(), Fail> {
-    for (_, text) in &TEXTS {
-        let got = told(rt.alloc(), text.as_bytes())?;
-        assert_eq!(rt; got.as_str(), *text, "{text}");
+fn what_is_printed_is_printed_alike(rt: HostRuntime) -> Shown {
+    expect_all_alike(&rt, rt.alloc(), &TEXTS)
+}
+
+/// A program of one loop, whose directive lists 500 names of 24 bytes, each in a line of its own.
+fn push_listing(text: &mut String) -> Shown {
+    text.push_str("subroutine s\n!$omp parallel do private(name_of_a_private_sc1000 &\n")?;
+    for i in 1001..1500u32 {
+        write!(text, "!$omp , name_of_a_private_sc{i} &\n")?;
     }
-    Ok(())
-}
-
-/// `names` names.
-fn many(alloc: Global, names: usize) -> Result<Items<Name>, Memory> {
-    let mut all = Items::new(alloc);
-    for _ in 0..names {
-        all.push(Name::of(alloc, b"name_of_a_private_scalar")?)?;
-    }
-    Ok(all)
-}
-
-fn private(alloc: Global, names: usize) -> Result<Directive, Memory> {
-    Ok(Directive {
-        line: 0,
-        privates: many(alloc, names)?,
-        firsts: Items::new(alloc),
-        shareds: Items::new(alloc),
-        pluses: Items::new(alloc),
-        none: false,
-        schedule: None,
-        collapse: 0,
-    })
-}
-
-fn scalar(alloc: Global) -> Result<Place, Memory> {
-    Ok(Place {
-        name: Name::of(alloc, b"n")?,
-        subscripts: Items::new(alloc),
-    })
-}
-
-/// A program of one loop, whose directive lists so many names.
-fn listing(alloc: Global, names: usize) -> Result<Program, Memory> {
-    let mut body = Items::new(alloc);
-    let directive = private(alloc, names)?;
-    let var = Name::of(alloc, b"i")?;
-    let first = scalar(alloc)?;
-    let last = scalar(alloc)?;
-    body.push(Stmt::Do {
-        line: 0,
-        number: 1,
-        directive: Some(directive),
-        var,
-        first: Expr::Get(first),
-        last: Expr::Get(last),
-        step: None,
-        body: Items::new(alloc),
-    })?;
-    Ok(Program {
-        line: 0,
-        name: Name::of(alloc, b"s")?,
-        args: Items::new(alloc),
-        decls: Items::new(alloc),
-        body,
-    })
+    text.push_str("!$omp )\ndo i = n, n\nend do\nend\n")
 }
 
 /// The number of lines, and the length of the longest.
@@ -170,22 +154,38 @@ fn measured(text: &[u8]) -> (usize, usize) {
 }
 
 /// How many tokens a text has.
-fn counted(alloc: Global, text: &[u8]) -> Result<usize, Fail> {
+fn counted(alloc: Global, text: &[u8]) -> usize {
     if text.len() > 2_000_000_000 {
-        return Ok(0);
+        return 0;
     }
-    let tokens = lex(alloc, text)?;
-    Ok(tokens.len())
+    match lex(alloc, text) {
+        Ok(tokens) => tokens.len(),
+        Err(_) => 0,
+    }
+}
+
+fn push_printed_listing(out: &mut String, alloc: Global) -> Shown {
+    let mut text = String::new(alloc);
+    push_listing(&mut text)?;
+    tell(out, alloc, text.as_str())
+}
+
+fn show_measures(out: &mut String, alloc: Global, text: &[u8]) -> Shown {
+    let (lines, longest) = measured(text);
+    let tokens = counted(alloc, text);
+    write!(out, "lines {lines} longest {longest} tokens {tokens}")
+}
+
+fn expect_measures<R: Abort>(rt: &R, alloc: Global, wanted: &str) -> Shown {
+    let mut printed = String::new(alloc);
+    push_printed_listing(&mut printed, alloc)?;
+    let mut told = String::new(alloc);
+    show_measures(&mut told, alloc, printed.as_bytes())?;
+    expect(rt, told.as_str(), wanted, printed.as_str());
+    Ok(())
 }
 
 #[test]
-fn a_long_directive_is_broken(rt: HostRuntime) -> Result<(), Fail> {
-    let program = listing(rt.alloc(), 500)?;
-    let text = print(rt.alloc(), &program)?;
-    let (lines, longest) = measured(&text);
-    assert_eq!(rt; lines, 131);
-    assert_eq!(rt; longest, 113);
-    let tokens = counted(rt.alloc(), &text)?;
-    assert_eq!(rt; tokens, 1028);
-    Ok(())
+fn a_long_directive_is_broken(rt: HostRuntime) -> Shown {
+    expect_measures(&rt, rt.alloc(), "lines 131 longest 113 tokens 1028")
 }

@@ -1,8 +1,9 @@
 //! Limits, on both sides. The token that is due to be refused stands on a line of its own.
 
-use crate::told::told;
-use std::alloc::{AllocError, Global};
-use std::test::Fail;
+use crate::parsed::expect_read;
+use crate::rows::Shown;
+use std::alloc::Global;
+use std::process::Abort;
 
 /// Lines between the first and the last: `front`, so many times `open`, `middle`, so many times `close`, and `back`.
 struct Row {
@@ -14,7 +15,7 @@ struct Row {
     wanted: &'static str,
 }
 
-fn push_times(text: &mut String, piece: (usize, &str)) -> Result<(), AllocError> {
+fn push_times(text: &mut String, piece: (usize, &str)) -> Shown {
     let (times, piece) = piece;
     for _ in 0..times {
         text.push_str(piece)?;
@@ -22,15 +23,27 @@ fn push_times(text: &mut String, piece: (usize, &str)) -> Result<(), AllocError>
     Ok(())
 }
 
-fn text_of(alloc: Global, row: &Row) -> Result<String, AllocError> {
-    let mut text = String::from_str(alloc, "subroutine s\n")?;
-    text.push_str(row.front)?;
-    push_times(&mut text, row.open)?;
-    text.push_str(row.middle)?;
-    push_times(&mut text, row.close)?;
-    text.push_str(row.back)?;
-    text.push_str("end\n")?;
-    Ok(text)
+fn push_text(text: &mut String, row: &Row) -> Shown {
+    text.push_str("subroutine s\n")
+        .and(text.push_str(row.front))
+        .and(push_times(text, row.open))
+        .and(text.push_str(row.middle))
+        .and(push_times(text, row.close))
+        .and(text.push_str(row.back))
+        .and(text.push_str("end\n"))
+}
+
+fn expect_row<R: Abort>(rt: &R, alloc: Global, row: &Row) -> Shown {
+    let mut text = String::new(alloc);
+    push_text(&mut text, row)?;
+    expect_read(rt, alloc, text.as_str(), row.wanted)
+}
+
+fn expect_rows<R: Abort>(rt: &R, alloc: Global, rows: &[Row]) -> Shown {
+    for row in rows {
+        expect_row(rt, alloc, row)?;
+    }
+    Ok(())
 }
 
 static ROWS: [Row; 73] = [
@@ -628,11 +641,6 @@ static ROWS: [Row; 73] = [
 ];
 
 #[test]
-fn limits_are_exact(rt: HostRuntime) -> Result<(), Fail> {
-    for row in &ROWS {
-        let text = text_of(rt.alloc(), row)?;
-        let got = told(rt.alloc(), text.as_str())?;
-        assert_eq!(rt; got.as_str(), row.wanted, "{text}");
-    }
-    Ok(())
+fn limits_are_exact(rt: HostRuntime) -> Shown {
+    expect_rows(&rt, rt.alloc(), &ROWS)
 }

@@ -1,8 +1,10 @@
 //! Whole programs.
 
-use crate::told::{due, told};
-use std::alloc::{AllocError, Global};
-use std::test::Fail;
+use crate::rows::Shown;
+use crate::typed::expect_typed;
+use fl_base::Memory;
+use std::alloc::Global;
+use std::process::Abort;
 
 /// A program, with what is said of it. The second line declares `indexes`, where there are any, and the third `data`.
 struct Program {
@@ -225,44 +227,57 @@ static PROGRAMS: [Program; 26] = [
     },
 ];
 
-fn push_head(text: &mut String, program: &Program) -> Result<(), AllocError> {
-    text.push_str("subroutine ")?;
-    text.push_str(program.name)?;
-    text.push('(')?;
-    text.push_str(program.args)?;
-    text.push_str(")\n")
+fn push_head(text: &mut String, program: &Program) -> Shown {
+    text.push_str("subroutine ")
+        .and(text.push_str(program.name))
+        .and(text.push('('))
+        .and(text.push_str(program.args))
+        .and(text.push_str(")\n"))
 }
 
-fn push_declarations(text: &mut String, program: &Program) -> Result<(), AllocError> {
+fn push_indexes(text: &mut String, program: &Program) -> Shown {
     if program.indexes.is_empty() {
-        text.push_str("  !")?;
-    } else {
-        text.push_str("  integer :: ")?;
-        text.push_str(program.indexes)?;
+        return text.push_str("  !\n");
     }
-    text.push_str("\n  integer(kind=8) :: ")?;
-    text.push_str(program.data)?;
-    text.push('\n')
+    text.push_str("  integer :: ")
+        .and(text.push_str(program.indexes))
+        .and(text.push('\n'))
 }
 
-fn text_of(alloc: Global, program: &Program) -> Result<String, AllocError> {
+fn push_data(text: &mut String, program: &Program) -> Shown {
+    text.push_str("  integer(kind=8) :: ")
+        .and(text.push_str(program.data))
+        .and(text.push('\n'))
+}
+
+fn push_end(text: &mut String, program: &Program) -> Shown {
+    text.push_str("end subroutine ")
+        .and(text.push_str(program.name))
+        .and(text.push('\n'))
+}
+
+fn push_program(text: &mut String, program: &Program) -> Shown {
+    push_head(text, program)
+        .and(push_indexes(text, program))
+        .and(push_data(text, program))
+        .and(text.push_str(program.body))
+        .and(push_end(text, program))
+}
+
+fn expect_program<R: Abort>(rt: &R, alloc: Global, program: &Program) -> Result<(), Memory> {
     let mut text = String::new(alloc);
-    push_head(&mut text, program)?;
-    push_declarations(&mut text, program)?;
-    text.push_str(program.body)?;
-    text.push_str("end subroutine ")?;
-    text.push_str(program.name)?;
-    text.push('\n')?;
-    Ok(text)
+    push_program(&mut text, program)?;
+    expect_typed(rt, alloc, text.as_str(), program.wanted)
+}
+
+fn expect_programs<R: Abort>(rt: &R, alloc: Global, programs: &[Program]) -> Result<(), Memory> {
+    for program in programs {
+        expect_program(rt, alloc, program)?;
+    }
+    Ok(())
 }
 
 #[test]
-fn programs_are_typed(rt: HostRuntime) -> Result<(), Fail> {
-    for program in &PROGRAMS {
-        let text = text_of(rt.alloc(), program)?;
-        let got = told(rt.alloc(), text.as_str())?;
-        let due = due(rt.alloc(), program.wanted)?;
-        assert_eq!(rt; got.as_str(), due.as_str(), "{text}");
-    }
-    Ok(())
+fn programs_are_typed(rt: HostRuntime) -> Result<(), Memory> {
+    expect_programs(&rt, rt.alloc(), &PROGRAMS)
 }

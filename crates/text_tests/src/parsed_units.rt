@@ -1,7 +1,7 @@
 //! Units and their declarations.
 
-use crate::told::told;
-use std::test::Fail;
+use crate::parsed::{expect_all_lines, expect_all_read};
+use crate::rows::Shown;
 
 /// Whole texts.
 static UNITS: [(&str, &str); 30] = [
@@ -108,20 +108,11 @@ static DECLARATIONS: [(&str, &str); 42] = [
 ];
 
 #[test]
-fn units_are_read(rt: HostRuntime) -> Result<(), Fail> {
-    for (text, wanted) in &UNITS {
-        let got = told(rt.alloc(), text)?;
-        assert_eq!(rt; got.as_str(), *wanted, "{text}");
-    }
-    Ok(())
+fn units_are_read(rt: HostRuntime) -> Shown {
+    expect_all_read(&rt, rt.alloc(), &UNITS)
 }
 
 #[test]
-fn declarations_are_read(rt: HostRuntime) -> Result<(), Fail> {
-    for (lines, wanted) in &DECLARATIONS {
-        let text = format!(in rt.alloc(); "subroutine s\n{lines}end\n")?;
-        let got = told(rt.alloc(), text.as_str())?;
-        assert_eq!(rt; got.as_str(), *wanted, "{lines}");
-    }
-    Ok(())
+fn declarations_are_read(rt: HostRuntime) -> Shown {
+    expect_all_lines(&rt, rt.alloc(), &DECLARATIONS)
 }

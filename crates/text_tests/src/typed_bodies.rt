@@ -1,7 +1,9 @@
 //! Statements.
 
-use crate::told::{due, told};
-use std::test::Fail;
+use crate::typed::expect_typed;
+use fl_base::Memory;
+use std::alloc::Global;
+use std::process::Abort;
 
 /// Five lines. Of the arguments `m`, `b`, `p` and `z` are read only. The locals `i`, `j` and `k` are indices, `t` and `u` data.
 const HEAD: &str =
@@ -280,13 +282,22 @@ static BODIES: [(&str, &str); 96] = [
     ),
 ];
 
-#[test]
-fn statements_are_typed(rt: HostRuntime) -> Result<(), Fail> {
-    for (lines, wanted) in &BODIES {
-        let text = format!(in rt.alloc(); "{HEAD}{lines}end\n")?;
-        let got = told(rt.alloc(), text.as_str())?;
-        let due = due(rt.alloc(), wanted)?;
-        assert_eq!(rt; got.as_str(), due.as_str(), "{lines}");
+fn expect_body<R: Abort>(rt: &R, alloc: Global, lines: &str, wanted: &str) -> Result<(), Memory> {
+    let mut text = String::new(alloc);
+    text.push_str(HEAD)
+        .and(text.push_str(lines))
+        .and(text.push_str("end\n"))?;
+    expect_typed(rt, alloc, text.as_str(), wanted)
+}
+
+fn expect_bodies<R: Abort>(rt: &R, alloc: Global, rows: &[(&str, &str)]) -> Result<(), Memory> {
+    for (lines, wanted) in rows {
+        expect_body(rt, alloc, lines, wanted)?;
     }
     Ok(())
+}
+
+#[test]
+fn statements_are_typed(rt: HostRuntime) -> Result<(), Memory> {
+    expect_bodies(&rt, rt.alloc(), &BODIES)
 }

@@ -1,11 +1,9 @@
 //! Trees and refusals as texts: an operation stands before its operands, in square brackets.
 
+use crate::texts::{Shown, push_bytes};
 use fl_ast::{AExpr, BinOp, Cond, Expr, Fun, Place, RelOp};
 use parsing::{Cause, Failure};
-use std::alloc::AllocError;
 use std::fmt::Write;
-
-pub(crate) type Shown = Result<(), AllocError>;
 
 fn op_word(op: BinOp) -> &'static str {
     match op {
@@ -44,13 +42,6 @@ fn cause_word(cause: Cause) -> &'static str {
     }
 }
 
-fn show_name(out: &mut String, bytes: &[u8]) -> Shown {
-    for b in bytes {
-        out.push(char::from(*b))?;
-    }
-    Ok(())
-}
-
 fn show_number(out: &mut String, number: u64) -> Shown {
     write!(out, "{number}")
 }
@@ -66,7 +57,7 @@ fn open(out: &mut String, word: &str) -> Shown {
 
 #[cycle(show)]
 fn show_place(out: &mut String, place: &Place) -> Shown {
-    show_name(out, place.name.bytes())?;
+    push_bytes(out, place.name.bytes())?;
     for subscript in place.subscripts.as_slice() {
         show_subscript(out, subscript)?;
     }
@@ -75,22 +66,19 @@ fn show_place(out: &mut String, place: &Place) -> Shown {
 
 #[cycle(show)]
 fn show_subscript(out: &mut String, subscript: &Expr) -> Shown {
-    out.push_str(" at ")?;
-    show_expr(out, subscript)
+    out.push_str(" at ").and(show_expr(out, subscript))
 }
 
 /// Shows an operand behind others, or behind the operator.
 #[cycle(show)]
 fn show_next(out: &mut String, operand: &Expr) -> Shown {
-    out.push(' ')?;
-    show_expr(out, operand)
+    out.push(' ').and(show_expr(out, operand))
 }
 
 /// Shows the last operand.
 #[cycle(show)]
 fn show_last(out: &mut String, operand: &Expr) -> Shown {
-    show_next(out, operand)?;
-    out.push(']')
+    show_next(out, operand).and(out.push(']'))
 }
 
 #[cycle(show)]
@@ -106,74 +94,51 @@ fn show_expr(out: &mut String, e: &Expr) -> Shown {
     match e {
         Expr::Lit { value, .. } => show_number(out, *value),
         Expr::Get(place) => show_place(out, place),
-        Expr::Neg(inner) => {
-            open(out, "-")?;
-            show_last(out, inner.get())
-        }
-        Expr::Bin { op, left, right } => {
-            open(out, op_word(*op))?;
-            show_next(out, left.get())?;
-            show_last(out, right.get())
-        }
-        Expr::Pow { base, exponent } => {
-            open(out, "**")?;
-            show_next(out, base.get())?;
-            show_exponent(out, *exponent)
-        }
-        Expr::Call { fun, args } => {
-            open(out, fun_word(*fun))?;
-            show_args(out, args.as_slice())
-        }
+        Expr::Neg(inner) => open(out, "-").and(show_last(out, inner.get())),
+        Expr::Bin { op, left, right } => open(out, op_word(*op))
+            .and(show_next(out, left.get()))
+            .and(show_last(out, right.get())),
+        Expr::Pow { base, exponent } => open(out, "**")
+            .and(show_next(out, base.get()))
+            .and(show_exponent(out, *exponent)),
+        Expr::Call { fun, args } => open(out, fun_word(*fun)).and(show_args(out, args.as_slice())),
     }
 }
 
 #[cycle(show_conditions)]
 fn show_next_cond(out: &mut String, operand: &Cond) -> Shown {
-    out.push(' ')?;
-    show_cond(out, operand)
+    out.push(' ').and(show_cond(out, operand))
 }
 
 #[cycle(show_conditions)]
 fn show_last_cond(out: &mut String, operand: &Cond) -> Shown {
-    show_next_cond(out, operand)?;
-    out.push(']')
+    show_next_cond(out, operand).and(out.push(']'))
 }
 
 #[cycle(show_conditions)]
 pub fn show_cond(out: &mut String, c: &Cond) -> Shown {
     match c {
-        Cond::Rel { op, left, right } => {
-            open(out, rel_word(*op))?;
-            show_next(out, left)?;
-            show_last(out, right)
-        }
-        Cond::Not(inner) => {
-            open(out, "not")?;
-            show_last_cond(out, inner.get())
-        }
-        Cond::And(left, right) => {
-            open(out, "and")?;
-            show_next_cond(out, left.get())?;
-            show_last_cond(out, right.get())
-        }
-        Cond::Or(left, right) => {
-            open(out, "or")?;
-            show_next_cond(out, left.get())?;
-            show_last_cond(out, right.get())
-        }
+        Cond::Rel { op, left, right } => open(out, rel_word(*op))
+            .and(show_next(out, left))
+            .and(show_last(out, right)),
+        Cond::Not(inner) => open(out, "not").and(show_last_cond(out, inner.get())),
+        Cond::And(left, right) => open(out, "and")
+            .and(show_next_cond(out, left.get()))
+            .and(show_last_cond(out, right.get())),
+        Cond::Or(left, right) => open(out, "or")
+            .and(show_next_cond(out, left.get()))
+            .and(show_last_cond(out, right.get())),
     }
 }
 
 #[cycle(show_adjoints)]
 fn show_next_adjoint(out: &mut String, operand: &AExpr) -> Shown {
-    out.push(' ')?;
-    show_adjoint(out, operand)
+    out.push(' ').and(show_adjoint(out, operand))
 }
 
 #[cycle(show_adjoints)]
 fn show_last_adjoint(out: &mut String, operand: &AExpr) -> Shown {
-    show_next_adjoint(out, operand)?;
-    out.push(']')
+    show_next_adjoint(out, operand).and(out.push(']'))
 }
 
 #[cycle(show_adjoints)]
@@ -189,24 +154,17 @@ pub fn show_adjoint(out: &mut String, e: &AExpr) -> Shown {
     match e {
         AExpr::Lit { value, .. } => show_number(out, *value),
         AExpr::Get(place) => show_place(out, place),
-        AExpr::Neg(inner) => {
-            open(out, "-")?;
-            show_last_adjoint(out, inner.get())
-        }
-        AExpr::Bin { op, left, right } => {
-            open(out, op_word(*op))?;
-            show_next_adjoint(out, left.get())?;
-            show_last_adjoint(out, right.get())
-        }
-        AExpr::Pow { base, exponent } => {
-            open(out, "**")?;
-            show_next_adjoint(out, base.get())?;
-            show_exponent(out, *exponent)
-        }
-        AExpr::Call { fun, args } => {
-            open(out, fun_word(*fun))?;
-            show_adjoint_args(out, args.as_slice())
-        }
+        AExpr::Neg(inner) => open(out, "-").and(show_last_adjoint(out, inner.get())),
+        AExpr::Bin { op, left, right } => open(out, op_word(*op))
+            .and(show_next_adjoint(out, left.get()))
+            .and(show_last_adjoint(out, right.get())),
+        AExpr::Pow { base, exponent } => open(out, "**")
+            .and(show_next_adjoint(out, base.get()))
+            .and(show_exponent(out, *exponent)),
+        AExpr::Call { fun, args } => open(out, fun_word(*fun)).and(show_adjoint_args(
+            out,
+            args.as_slice(),
+        )),
         AExpr::Merge {
             first,
             second,

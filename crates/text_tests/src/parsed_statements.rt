@@ -1,7 +1,7 @@
 //! Statements and directives.
 
-use crate::told::told;
-use std::test::Fail;
+use crate::parsed::expect_all_lines;
+use crate::rows::Shown;
 
 /// Statements, between the first line and the last.
 static STATEMENTS: [(&str, &str); 65] = [
@@ -191,21 +191,11 @@ static DIRECTIVES: [(&str, &str); 35] = [
 ];
 
 #[test]
-fn statements_are_read(rt: HostRuntime) -> Result<(), Fail> {
-    for (lines, wanted) in &STATEMENTS {
-        let text = format!(in rt.alloc(); "subroutine s\n{lines}end\n")?;
-        let got = told(rt.alloc(), text.as_str())?;
-        assert_eq!(rt; got.as_str(), *wanted, "{lines}");
-    }
-    Ok(())
+fn statements_are_read(rt: HostRuntime) -> Shown {
+    expect_all_lines(&rt, rt.alloc(), &STATEMENTS)
 }
 
 #[test]
-fn directives_stand_in_their_places(rt: HostRuntime) -> Result<(), Fail> {
-    for (lines, wanted) in &DIRECTIVES {
-        let text = format!(in rt.alloc(); "subroutine s\n{lines}end\n")?;
-        let got = told(rt.alloc(), text.as_str())?;
-        assert_eq!(rt; got.as_str(), *wanted, "{lines}");
-    }
-    Ok(())
+fn directives_stand_in_their_places(rt: HostRuntime) -> Shown {
+    expect_all_lines(&rt, rt.alloc(), &DIRECTIVES)
 }

@@ -1,7 +1,7 @@
 //! Declarations.
 
-use crate::told::{due, told};
-use std::test::Fail;
+use crate::typed::expect_all_typed;
+use fl_base::Memory;
 
 /// Whole texts, with the line and the rule that is broken first.
 static UNITS: [(&str, &str); 31] = [
@@ -110,11 +110,6 @@ static UNITS: [(&str, &str); 31] = [
 ];
 
 #[test]
-fn declarations_are_typed(rt: HostRuntime) -> Result<(), Fail> {
-    for (text, wanted) in &UNITS {
-        let got = told(rt.alloc(), text)?;
-        let due = due(rt.alloc(), wanted)?;
-        assert_eq!(rt; got.as_str(), due.as_str(), "{text}");
-    }
-    Ok(())
+fn declarations_are_typed(rt: HostRuntime) -> Result<(), Memory> {
+    expect_all_typed(&rt, rt.alloc(), &UNITS)
 }

@@ -1,6 +1,7 @@
 //! Expressions of an adjoint's text.
 
-use crate::shown::{Shown, show_adjoint, show_failure};
+use crate::shown::{show_adjoint, show_failure};
+use crate::texts::{Shown, expect};
 use adjoint_expressions::{AMeasured, adjoint_expr};
 use fl_lexer::lex;
 use parsing::{Cursor, Failure};
@@ -44,11 +45,21 @@ fn expect_told<R: Abort>(
 ) -> Shown {
     let mut got = String::new(alloc);
     tell(&mut got, alloc, text, brackets, levels)?;
-    assert_eq!(rt; got.as_str(), wanted, "{text}");
+    expect(rt, got.as_str(), wanted, text.as_bytes());
     Ok(())
 }
 
-static EXPRESSIONS: [(&str, usize, u32, &str); 17] = [
+/// A text, how many brackets and levels may open in it, and what it is read as.
+type Row = (&'static str, usize, u32, &'static str);
+
+fn expect_all<R: Abort>(rt: &R, alloc: Global, rows: &[Row]) -> Shown {
+    for (text, brackets, levels, wanted) in rows {
+        expect_told(rt, alloc, text, *brackets, *levels, wanted)?;
+    }
+    Ok(())
+}
+
+static EXPRESSIONS: [Row; 17] = [
     (
         "merge(1_8, 0_8, a >= b)",
         256,
@@ -103,8 +114,5 @@ static EXPRESSIONS: [(&str, usize, u32, &str); 17] = [
 
 #[test]
 fn expressions_of_adjoints_are_read(rt: HostRuntime) -> Shown {
-    for (text, brackets, levels, wanted) in &EXPRESSIONS {
-        expect_told(&rt, rt.alloc(), text, *brackets, *levels, wanted)?;
-    }
-    Ok(())
+    expect_all(&rt, rt.alloc(), &EXPRESSIONS)
 }

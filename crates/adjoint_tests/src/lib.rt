@@ -1,5 +1,0 @@
-//! Tests of the parser of adjoints.
-#![tactic(auto)]
-
-#[cfg(test)]
-mod texts;

@@ -1,5 +1,0 @@
-//! Tests of the printer with the parser.
-#![tactic(auto)]
-
-#[cfg(test)]
-mod texts;
