@@ -88,17 +88,42 @@ fn indent(margin: usize, directive: bool) -> Result<usize, Memory>
 fn break_line(text: &mut Vec<u8>, margin: usize, directive: bool) -> Result<(), Memory>
     ensures { OnOk result (text.new.items ≡ text.old.items ++ spec.break_text margin directive) }
 {
+    let indent = indent(margin, directive)?;
     text.extend_from_slice(b" &\n")?;
-    push_blanks(text, indent(margin, directive)?)?;
-    push_opening(text, directive)?;
-    push_blank(text, directive)?;
-    Ok(())
+    push_blanks(text, indent)
+        .and(push_opening(text, directive))
+        .and(push_blank(text, directive))
 }
 
 fn is_past(at: usize, word: &Spaced) -> Result<bool, Memory>
     ensures { IfOk result (λ b. b ≡ spec.is_past (at + spec.width word.now)) }
 {
     Ok(plus(at, width(word)?)? > 118)
+}
+
+/// Adds a token on a later line, and tells where that line stands then.
+fn broken(
+    text: &mut Vec<u8>,
+    margin: usize,
+    directive: bool,
+    word: &Spaced,
+) -> Result<usize, Memory>
+    ensures text { OnOk result (text.new.items ≡ text.old.items ++ (spec.break_text margin directive ++ word.now.text)) }
+    ensures at { IfOk result (λ n. n ≡ spec.start margin directive + length word.now.text) }
+{
+    break_line(text, margin, directive)?;
+    text.extend_from_slice(word.text.bytes())?;
+    plus(start(margin, directive)?, word.text.bytes().len())
+}
+
+/// Adds a token on the same line, and tells where the line stands then.
+fn continued(text: &mut Vec<u8>, at: usize, word: &Spaced) -> Result<usize, Memory>
+    ensures text { OnOk result (text.new.items ≡ text.old.items ++ (spec.blank_bytes word.now.blank ++ word.now.text)) }
+    ensures at { IfOk result (λ n. n ≡ at + spec.width word.now) }
+{
+    push_blank(text, word.blank)?;
+    text.extend_from_slice(word.text.bytes())?;
+    plus(at, width(word)?)
 }
 
 /// Adds the tokens that stand behind so many bytes of a line.
@@ -117,14 +142,11 @@ fn lay(
         let word = &words[i];
         let past = is_past(at, word)?;
         if long && past {
-            break_line(text, margin, directive)?;
-            at = plus(start(margin, directive)?, word.text.bytes().len())?;
+            at = broken(text, margin, directive, word)?;
             long = is_long(at, &words[i + 1..])?;
         } else {
-            push_blank(text, word.blank)?;
-            at = plus(at, width(word)?)?;
+            at = continued(text, at, word)?;
         }
-        text.extend_from_slice(word.text.bytes())?;
     }
     text.push(b'\n')?;
     Ok(())
@@ -146,8 +168,7 @@ fn begun(text: &mut Vec<u8>, margin: usize, first: &Spaced, behind: &[Spaced]) -
 {
     push_blank(text, first.blank)?;
     text.extend_from_slice(first.text.bytes())?;
-    lay(text, margin, false, plus(margin, width(first)?)?, behind)?;
-    Ok(())
+    lay(text, margin, false, plus(margin, width(first)?)?, behind)
 }
 
 /// Adds a statement's row.
