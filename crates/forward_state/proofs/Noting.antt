@@ -18,6 +18,7 @@ use Rattle.sweep_law.specs.Telling.{Scene, ForwardTape, Standing, standing, touc
 use Rattle.forward_state.specs.declared.run.Run.{Run}
 use Rattle.forward_state.specs.declared.run.SweepStop.{SweepStop}
 use Rattle.forward_state.specs.Steps.{noted, begun, touched_at, with_tape, with_next_tape}
+use Rattle.sweep_evaluation.specs.Machine.{Ran, ran, Does}
 use Rattle.forward_state.specs.Holding.{over_by, ticks_of, AreSince, SeenAs, Holds, Leaves}
 
 -- what was seen, where nothing has stopped
@@ -200,3 +201,22 @@ some_of None e = cc
 pub ok_holds : {A E : Type 0} (r : Result A E) (P : Type 0) → is_err r ≡ false → OnOk r P → P
 ok_holds (Ok a) P e h = h
 ok_holds (Err x) P e h = cc
+
+-- a step by what is held, as a step by what is kept
+pub leaves_held : {B : Type 0} (f : B → Standing → Standing) (v : Cells → B) (a b : Run) (u w : ℕ → List Touch → Type 0) (p q : ℕ) (judge : Judge) → Leaves a b u w p q judge (f (v a.cells.items))
+    → Leaves a b u w p q judge (λ s. f (v s.kept.cells) s)
+leaves_held f v a b u w p q judge d = record { was = d.was; leaves = λ l s h. subst (λ (x : Cells). Holds b w q judge (f (v x) s)) (sym h.cells) (d.leaves l s h) }
+
+-- an evaluation, and then a step by its result
+pub does_leaves : {V A : Type 0} (run : V → Run) (watched : V → ℕ → List Touch → Type 0) (places : V → ℕ) (judge : Judge) (u v w : V) (a : A) (m : Standing → Ran Standing A) (f : A → Standing → Standing)
+    → Does (λ x s. Holds (run x) (watched x) (places x) judge s) (λ x. (run x).lost) u v a m → Leaves (run v) (run w) (watched v) (watched w) (places v) (places w) judge (f a)
+    → Leaves (run u) (run w) (watched u) (watched w) (places u) (places w) judge (λ s. f (m s).out (m s).state)
+does_leaves run watched places judge u v w a m f d e = record {
+  was = λ l. d.before (e.was l);
+  leaves = λ l s h. let r = d.runs (e.was l) s h in subst (λ x. Holds (run w) (watched w) (places w) judge (f x (m s).state)) r.0 (e.leaves l (m s).state r.1);
+}
+
+-- a stop
+pub stop_leaves : {V : Type 0} (run : V → Run) (watched : V → ℕ → List Touch → Type 0) (places : V → ℕ) (judge : Judge) (u v : V) (x : Unit {0}) (m : Standing → Standing)
+    → Does (λ y s. Holds (run y) (watched y) (places y) judge s) (λ y. (run y).lost) u v x (λ s. ran x (m s)) → Leaves (run u) (run v) (watched u) (watched v) (places u) (places v) judge m
+stop_leaves run watched places judge u v x m d = record { was = d.before; leaves = λ l s h. (d.runs l s h).1 }

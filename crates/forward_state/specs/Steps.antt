@@ -5,6 +5,9 @@ use Rattle.store_core.specs.Tapes.{Item, word, lists, IterationLists, with_word}
 use Rattle.meaning.specs.declared.value.Value.{Value}
 use Rattle.meaning.specs.Logs.{begins, touches, pushes, ends, Note, tells, stores}
 use Rattle.meaning.specs.Sites.{with_tangent, word_of}
+use Rattle.meaning.specs.declared.value.Value.TheVariants.{Index}
+use Rattle.meaning.specs.Expressions.{content}
+use Rattle.meaning.specs.Statements.{content_at}
 use Rattle.first_stops.specs.Kept.{with_note}
 use Rattle.sweep_law.specs.Telling.{Scene, ForwardTape, Standing, standing, goes_on}
 
@@ -79,3 +82,26 @@ left s = from s.scene.around where
   from : Option ℕ → Standing
   from None = s
   from (Some line) = noted (outside s) (tells (ends line))
+
+-- ---- the same, where there is one
+
+abbrev pub touched_if : Bool → ℕ → AccessKind → Standing → Standing
+touched_if accessed p kind s = if accessed then touched_at s p kind else s
+
+abbrev pub pushed_if : Bool → Option Value → Standing → Standing
+pushed_if flag v s = if flag then pushed s v else s
+
+-- the content of a place goes to the tape
+abbrev pub pushed_old : Bool → ℕ → Standing → Standing
+pushed_old flag p s = pushed_if flag (content s.kept.cells p) s
+
+abbrev pub number_set : Option ℕ → ℤ → Standing → Standing
+number_set None z s = s
+number_set (Some p) z s = set_at s p (Some (Index z))
+
+abbrev pub unset_at : Option ℕ → Standing → Standing
+unset_at None s = s
+unset_at (Some p) s = set_at s p None
+
+abbrev pub scalar_pushed : Bool → Option ℕ → Standing → Standing
+scalar_pushed flag place s = pushed_if flag (content_at s.kept.cells place) s

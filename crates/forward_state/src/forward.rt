@@ -1,18 +1,19 @@
-ghost use Rattle.std.specs.Prelude.{◌≡◌, ◌+◌, List, OnOk};
+ghost use Rattle.std.specs.Prelude.{◌≡◌, ◌+◌, ◌||◌, is_some, List, OnOk};
 ghost use Rattle.store_core.specs.Tapes.{Item};
+ghost use Rattle.meaning.specs.Expressions.{content};
 ghost use Rattle.meaning.specs.Sites.{with_tangent};
 ghost use Rattle.sweep_evaluation.specs.Machine.{Told};
 ghost use Rattle.sweep_law.specs.Telling.{Standing, told};
 ghost use Rattle.forward_state.specs.Holding.{Holds, Leaves, ticks_of};
-ghost use Rattle.forward_state.specs.Steps.{noted, begun, touched_at, set_at, pushed, on_line, entered, with_word_on, with_tape, with_next_tape, in_iteration, closed, left};
+ghost use Rattle.forward_state.specs.Steps.{noted, begun, touched_at, set_at, pushed, on_line, entered, with_word_on, with_tape, with_next_tape, in_iteration, closed, left, touched_if, pushed_old, number_set, unset_at, scalar_pushed};
 
 use crate::run::{Run, SweepStop};
-use crate::words::{cell, word_of};
+use crate::words::{cell, cell_at, word_of};
 use dual_evaluation::Halt;
 use fl_base::{Items, Memory, Name};
 use fl_types::AccessKind;
 use meaning::{Dual, Value};
-use ring_core::Steps;
+use ring_core::{Index, Steps};
 use std::alloc::Global;
 use std::sync::ledger::Ledger;
 use store_core::{IterationTapes, Tape};
@@ -43,6 +44,8 @@ impl<W: Watch> Access for Forward<W> {
     ghost stands = { λ f s. Holds f.run (W.stands_for f.watch) (W.places f.watch) W.judge s };
 
     ghost lost = { λ f. f.run.lost };
+
+    ghost steady = { λ f. ticks_of f.run };
 
     #[inline(always)]
     fn load(&mut self, slot: usize, place: u32, accessed: bool) -> u64 {
@@ -80,8 +83,9 @@ impl<W: Watch> Forward<W> {
     /// The iteration that runs touches a place. Outside parallel loops nothing is touched.
     #[inline(always)]
     pub fn touch(&mut self, place: u32, kind: AccessKind)
-        ensures { Leaves self.old.run self.new.run (W.stands_for self.old.watch) (W.stands_for self.new.watch)
+        ensures left { Leaves self.old.run self.new.run (W.stands_for self.old.watch) (W.stands_for self.new.watch)
             (W.places self.old.watch) (W.places self.new.watch) W.judge (λ s. touched_at s place kind) }
+        ensures ticks { ticks_of self.new.run ≡ ticks_of self.old.run }
     {
         if self.run.stop.is_some() {
             return;
@@ -166,6 +170,84 @@ impl<W: Watch> Forward<W> {
         self.run.words += 1;
         if push_word(&mut self.run.tape, &mut self.run.running, word_of(content)).is_err() {
             self.run.lost = true;
+        }
+    }
+
+    /// Whether nothing more has to be done: something stopped, or memory was wanting.
+    #[inline(always)]
+    pub fn is_over(&self) -> bool
+        ensures over { result ≡ (is_some self.now.run.stop || self.now.run.lost) }
+    {
+        self.run.stop.is_some() || self.run.lost
+    }
+
+    /// The content of a place.
+    #[inline(always)]
+    pub fn content(&self, place: u32) -> Option<Value>
+        ensures { result ≡ content self.now.run.cells.items place }
+    {
+        cell(&self.run.cells, place)
+    }
+
+    /// The same as `touch`, where the occurrence is an access.
+    #[inline(always)]
+    pub fn touch_if(&mut self, accessed: bool, place: u32, kind: AccessKind)
+        ensures left { Leaves self.old.run self.new.run (W.stands_for self.old.watch) (W.stands_for self.new.watch)
+            (W.places self.old.watch) (W.places self.new.watch) W.judge (touched_if accessed place kind) }
+        ensures ticks { ticks_of self.new.run ≡ ticks_of self.old.run }
+    {
+        if accessed {
+            self.touch(place, kind);
+        }
+    }
+
+    /// The content of a place goes to the tape, where it is pushed.
+    #[inline(always)]
+    pub fn push_old(&mut self, pushes: bool, place: u32)
+        ensures left { Leaves self.old.run self.new.run (W.stands_for self.old.watch) (W.stands_for self.new.watch)
+            (W.places self.old.watch) (W.places self.new.watch) W.judge (pushed_old pushes place) }
+        ensures ticks { ticks_of self.new.run ≡ ticks_of self.old.run }
+    {
+        if pushes {
+            let content = cell(&self.run.cells, place);
+            self.push(content);
+        }
+    }
+
+    /// A loop's variable, where it has a place, is set for a turn.
+    #[inline(always)]
+    pub fn set_number(&mut self, place: Option<u32>, number: i32)
+        ensures left { Leaves self.old.run self.new.run (W.stands_for self.old.watch) (W.stands_for self.new.watch)
+            (W.places self.old.watch) (W.places self.new.watch) W.judge (number_set place number) }
+        ensures ticks { ticks_of self.new.run ≡ ticks_of self.old.run }
+    {
+        if let Some(place) = place {
+            self.set(place, Some(Value::Index(Index::of(number))));
+        }
+    }
+
+    /// A scalar is unset, where it has a place.
+    #[inline(always)]
+    pub fn unset(&mut self, place: Option<u32>)
+        ensures left { Leaves self.old.run self.new.run (W.stands_for self.old.watch) (W.stands_for self.new.watch)
+            (W.places self.old.watch) (W.places self.new.watch) W.judge (unset_at place) }
+        ensures ticks { ticks_of self.new.run ≡ ticks_of self.old.run }
+    {
+        if let Some(place) = place {
+            self.set(place, None);
+        }
+    }
+
+    /// The content of a scalar goes to the tape, where it is pushed.
+    #[inline(always)]
+    pub fn push_scalar(&mut self, pushes: bool, place: Option<u32>)
+        ensures left { Leaves self.old.run self.new.run (W.stands_for self.old.watch) (W.stands_for self.new.watch)
+            (W.places self.old.watch) (W.places self.new.watch) W.judge (scalar_pushed pushes place) }
+        ensures ticks { ticks_of self.new.run ≡ ticks_of self.old.run }
+    {
+        if pushes {
+            let content = cell_at(&self.run.cells, place);
+            self.push(content);
         }
     }
 

@@ -1,6 +1,7 @@
 ghost use Rattle.std.specs.Prelude.{◌≡◌};
 ghost use Rattle.meaning.specs.Sites.{word_of as word_of_lem};
 ghost use Rattle.meaning.specs.Expressions.{content};
+ghost use Rattle.meaning.specs.Statements.{content_at};
 
 use meaning::Value;
 
@@ -24,5 +25,16 @@ pub(crate) fn cell(cells: &[Option<Value>], place: u32) -> Option<Value>
         cells[place as usize]
     } else {
         None
+    }
+}
+
+/// The content of a place, where there is one.
+#[inline(always)]
+pub(crate) fn cell_at(cells: &[Option<Value>], place: Option<u32>) -> Option<Value>
+    ensures { result ≡ content_at cells.now place }
+{
+    match place {
+        None => None,
+        Some(place) => cell(cells, place),
     }
 }

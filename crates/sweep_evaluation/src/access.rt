@@ -1,4 +1,4 @@
-ghost use Rattle.std.specs.Prelude.{◌≡◌, Bool, true};
+ghost use Rattle.std.specs.Prelude.{◌≡◌, ℕ, Bool, true};
 ghost use Rattle.sweep_evaluation.specs.Machine.{Told, ran, Does};
 
 use dual_evaluation::Halt;
@@ -18,18 +18,24 @@ pub trait Access {
     // Memory was wanting: it stands for nothing more.
     ghost lost: { Self → Bool };
 
+    // What no load and no stop changes.
+    ghost steady: { Self → ℕ };
+
     /// The word at a place of a slot's name, whose touch is told where the occurrence is an access.
     fn load(&mut self, slot: usize, place: u32, accessed: bool) -> u64
-        ensures { Does stands lost self.old self.new result (λ s. ran (told.word s place) (told.loaded s slot place accessed)) };
+        ensures does { Does stands lost self.old self.new result (λ s. ran (told.word s place) (told.loaded s slot place accessed)) }
+        ensures steady { steady self.new ≡ steady self.old };
 
     /// There is no value or place.
     fn stop(&mut self, why: Halt)
-        ensures { Does stands lost self.old self.new result (λ s. ran result (told.stopped s why)) };
+        ensures does { Does stands lost self.old self.new result (λ s. ran result (told.stopped s why)) }
+        ensures steady { steady self.new ≡ steady self.old };
 
     /// What subscripts of many axes take memory of.
     fn alloc(&self) -> Global;
 
     /// Memory is wanting.
     fn lose(&mut self)
-        ensures { lost self.new ≡ true };
+        ensures lost { lost self.new ≡ true }
+        ensures steady { steady self.new ≡ steady self.old };
 }

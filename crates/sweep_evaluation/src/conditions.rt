@@ -26,7 +26,8 @@ fn compares(op: RelOp, left: i64, right: i64) -> bool
 
 /// Whether a condition holds; both sides of `.and.` and `.or.` are evaluated.
 pub fn holds<A: Access>(access: &mut A, table: &SlotTable, code: &TestCode) -> bool
-    ensures { Does A.stands A.lost access.old access.new result (test_value A.told table.now (test_tree code.now)) }
+    ensures does { Does A.stands A.lost access.old access.new result (test_value A.told table.now (test_tree code.now)) }
+    ensures steady { A.steady access.new ≡ A.steady access.old }
 {
     match code {
         TestCode::Indices { op, left, right } => {

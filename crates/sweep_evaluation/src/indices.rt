@@ -37,7 +37,8 @@ fn halt_of(trap: IndexTrap) -> Halt
 /// A number, or the stop for which there is none.
 #[inline(always)]
 fn exact<A: Access>(access: &mut A, found: Result<Index, IndexTrap>) -> Index
-    ensures { Does A.stands A.lost access.old access.new result (exactly A.told found) }
+    ensures does { Does A.stands A.lost access.old access.new result (exactly A.told found) }
+    ensures steady { A.steady access.new ≡ A.steady access.old }
 {
     match found {
         Ok(number) => number,
@@ -100,7 +101,8 @@ fn absolute(number: Index) -> Result<Index, IndexTrap>
 /// The word at a place of a slot's name.
 #[inline(always)]
 fn load_at<A: Access>(access: &mut A, slot: usize, accessed: bool, place: Option<u32>) -> u64
-    ensures { Does A.stands A.lost access.old access.new result (load_at_lem A.told slot accessed place) }
+    ensures does { Does A.stands A.lost access.old access.new result (load_at_lem A.told slot accessed place) }
+    ensures steady { A.steady access.new ≡ A.steady access.old }
 {
     match place {
         Some(place) => access.load(slot, place, accessed),
@@ -114,7 +116,8 @@ fn load_at<A: Access>(access: &mut A, slot: usize, accessed: bool, place: Option
 /// The place of an occurrence of a name, `None` outside its bounds.
 #[inline(always)]
 pub fn locate<A: Access>(access: &mut A, table: &SlotTable, spot: &Spot) -> Option<u32>
-    ensures { Does A.stands A.lost access.old access.new result (spot_place A.told table.now (spot_tree spot.now)) }
+    ensures does { Does A.stands A.lost access.old access.new result (spot_place A.told table.now (spot_tree spot.now)) }
+    ensures steady { A.steady access.new ≡ A.steady access.old }
 {
     match spot {
         Spot::Scalar { place, .. } => Some(*place),
@@ -139,8 +142,9 @@ fn element_place<A: Access>(
     slot: usize,
     subscript: &IndexCode,
 ) -> Option<u32>
-    ensures { Does A.stands A.lost access.old access.new result
+    ensures does { Does A.stands A.lost access.old access.new result
         (λ s. index_value A.told table.now (index_tree subscript.now) s to (λ z. ran (place_in_slot table.now.0 slot (z ∷ [])))) }
+    ensures steady { A.steady access.new ≡ A.steady access.old }
 {
     let number = index(access, table, subscript);
     place_at(table, slot, &[i64::from(number.value())])
@@ -154,8 +158,9 @@ fn elements_place<A: Access>(
     slot: usize,
     subscripts: &[IndexCode],
 ) -> Option<u32>
-    ensures { Does A.stands A.lost access.old access.new result
+    ensures does { Does A.stands A.lost access.old access.new result
         (λ s. index_values A.told table.now (index_trees subscripts.now) s to (λ zs. ran (place_in_slot table.now.0 slot zs))) }
+    ensures steady { A.steady access.new ≡ A.steady access.old }
 {
     let mut numbers = SmallVec::<i64, 7>::new(access.alloc());
     for subscript in subscripts {
@@ -172,7 +177,8 @@ fn elements_place<A: Access>(
 #[cycle(indices)]
 #[inline(always)]
 fn number_at<A: Access>(access: &mut A, table: &SlotTable, spot: &Spot) -> Index
-    ensures { Does A.stands A.lost access.old access.new result (index_value A.told table.now (index_get (spot_tree spot.now))) }
+    ensures does { Does A.stands A.lost access.old access.new result (index_value A.told table.now (index_get (spot_tree spot.now))) }
+    ensures steady { A.steady access.new ≡ A.steady access.old }
 {
     narrow(word_at(access, table, spot))
 }
@@ -181,7 +187,8 @@ fn number_at<A: Access>(access: &mut A, table: &SlotTable, spot: &Spot) -> Index
 #[cycle(indices)]
 #[inline(always)]
 pub(crate) fn word_at<A: Access>(access: &mut A, table: &SlotTable, spot: &Spot) -> u64
-    ensures { Does A.stands A.lost access.old access.new result (spot_word A.told table.now (spot_tree spot.now)) }
+    ensures does { Does A.stands A.lost access.old access.new result (spot_word A.told table.now (spot_tree spot.now)) }
+    ensures steady { A.steady access.new ≡ A.steady access.old }
 {
     match spot {
         Spot::Scalar {
@@ -212,7 +219,8 @@ pub(crate) fn word_at<A: Access>(access: &mut A, table: &SlotTable, spot: &Spot)
 #[cycle(indices)]
 #[inline(always)]
 pub fn index<A: Access>(access: &mut A, table: &SlotTable, code: &IndexCode) -> Index
-    ensures { Does A.stands A.lost access.old access.new result (index_value A.told table.now (index_tree code.now)) }
+    ensures does { Does A.stands A.lost access.old access.new result (index_value A.told table.now (index_tree code.now)) }
+    ensures steady { A.steady access.new ≡ A.steady access.old }
 {
     match code {
         IndexCode::Number(number) => Index::of(*number),
@@ -224,7 +232,8 @@ pub fn index<A: Access>(access: &mut A, table: &SlotTable, code: &IndexCode) -> 
 #[cycle(indices)]
 #[inline(never)]
 fn index_operation<A: Access>(access: &mut A, table: &SlotTable, code: &IndexCode) -> Index
-    ensures { Does A.stands A.lost access.old access.new result (index_value A.told table.now (index_tree code.now)) }
+    ensures does { Does A.stands A.lost access.old access.new result (index_value A.told table.now (index_tree code.now)) }
+    ensures steady { A.steady access.new ≡ A.steady access.old }
 {
     match code {
         IndexCode::Number(number) => Index::of(*number),

@@ -56,7 +56,8 @@ fn absolute(width: Width, value: Ring) -> Ring
 
 #[inline(always)]
 fn widened<A: Access>(access: &mut A, table: &SlotTable, code: &IndexCode) -> Ring
-    ensures { Does A.stands A.lost access.old access.new result (ring_value A.told table.now (widened_tree (index_tree code.now))) }
+    ensures does { Does A.stands A.lost access.old access.new result (ring_value A.told table.now (widened_tree (index_tree code.now))) }
+    ensures steady { A.steady access.new ≡ A.steady access.old }
 {
     widen(index(access, table, code))
 }
@@ -65,7 +66,8 @@ fn widened<A: Access>(access: &mut A, table: &SlotTable, code: &IndexCode) -> Ri
 #[cycle(rings)]
 #[inline(always)]
 pub fn ring<A: Access>(access: &mut A, table: &SlotTable, code: &RingCode) -> Ring
-    ensures { Does A.stands A.lost access.old access.new result (ring_value A.told table.now (ring_tree code.now)) }
+    ensures does { Does A.stands A.lost access.old access.new result (ring_value A.told table.now (ring_tree code.now)) }
+    ensures steady { A.steady access.new ≡ A.steady access.old }
 {
     match code {
         RingCode::Word(word) => Ring::of_word(*word),
@@ -77,7 +79,8 @@ pub fn ring<A: Access>(access: &mut A, table: &SlotTable, code: &RingCode) -> Ri
 #[cycle(rings)]
 #[inline(never)]
 fn ring_operation<A: Access>(access: &mut A, table: &SlotTable, code: &RingCode) -> Ring
-    ensures { Does A.stands A.lost access.old access.new result (ring_value A.told table.now (ring_tree code.now)) }
+    ensures does { Does A.stands A.lost access.old access.new result (ring_value A.told table.now (ring_tree code.now)) }
+    ensures steady { A.steady access.new ≡ A.steady access.old }
 {
     match code {
         RingCode::Word(word) => Ring::of_word(*word),

@@ -1,4 +1,4 @@
-use Rattle.std.proofs.Common.{rules, ◌≡◌, ap, sym, subst, ◌∙◌, length, [], ◌∷◌, ◌++◌, List, ℤ, arith, ◌<◌, ◌≤◌, ◌+◌}
+use Rattle.std.proofs.Common.{rules, refl, ◌≡◌, ap, sym, subst, ◌∙◌, length, [], ◌∷◌, ◌++◌, List, ℤ, arith, ◌<◌, ◌≤◌, ◌+◌}
 use Rattle.std.specs.Prelude.{take}
 use Rattle.store_core.specs.Keys.{place_in_slot}
 use Rattle.sweep_trees.specs.declared.code.IndexCode.{IndexCode}
@@ -11,6 +11,7 @@ pub elements_place-loop-subscript-init : goal.elements_place-loop-subscript-init
 elements_place-loop-subscript-init g t c = record {
   so_far = subst (λ (zs : List ℤ). Does g.A.Access.stands g.A.Access.lost c.args.access.now c.args.access.now zs (index_values g.A.Access.told c.args.table.now (index_trees (take 0 c.args.subscripts.now))))
       (sym c.new-numbers.ensures.items) (does_nothing g.A.Access.stands g.A.Access.lost c.args.access.now []);
+  steady = refl;
 }
 
 pub elements_place-loop-subscript-preserved : goal.elements_place-loop-subscript-preserved
@@ -21,11 +22,12 @@ elements_place-loop-subscript-preserved g t c =
     let q : c.push.new.self.items ≡ c.loop-subscript.numbers.items ++ c.index-number.result ∷ [] = search (rules) in
     record {
       so_far = rw (q, m) (does_more g.A.Access.stands g.A.Access.lost c.args.access.now c.loop-subscript.access c.index-number.new.access g.A.Access.told c.args.table.now
-          (take i xs) c.subscript-item.result c.loop-subscript.numbers.items c.index-number.result c.loop-subscript.invariant.so_far c.index-number.ensures);
+          (take i xs) c.subscript-item.result c.loop-subscript.numbers.items c.index-number.result c.loop-subscript.invariant.so_far c.index-number.ensures.does);
+      steady = c.index-number.ensures.steady ∙ c.loop-subscript.invariant.steady;
     }
 
-pub elements_place-returns : goal.elements_place-returns
-elements_place-returns g t c =
+pub elements_place-returns-clause-does : goal.elements_place-returns-clause-does
+elements_place-returns-clause-does g t c =
     let xs : List IndexCode = c.args.subscripts.now in
     let w : take c.loop-subscript.subscript-index xs ≡ xs = taken_all xs c.loop-subscript.subscript-index (search (rules)) in
     let p : c.place_at.result ≡ place_in_slot c.args.table.now.0 c.args.slot c.loop-subscript.numbers.items = search (rules) in

@@ -1,4 +1,4 @@
-use Rattle.std.specs.Prelude.{take}
+use Rattle.std.specs.Prelude.{take, ◌≡◌}
 use Rattle.sweep_trees.specs.Split.{index_trees}
 use Rattle.sweep_evaluation.specs.Machine.{Does, index_values}
 use Rattle.sweep_evaluation.proofs.indices.+indices.Given as goal
@@ -7,4 +7,5 @@ abbrev pub invariant-elements_place-loop-subscript : goal.invariant-elements_pla
 invariant-elements_place-loop-subscript g l = record {
   so_far : Does g.A.Access.stands g.A.Access.lost l.initial.access l.access l.numbers.items
       (index_values g.A.Access.told l.table (index_trees (take l.subscript-index l.subscripts)));
+  steady : g.A.Access.steady l.access ≡ g.A.Access.steady l.initial.access;
 }
