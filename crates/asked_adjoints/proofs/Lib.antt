@@ -1,0 +1,3 @@
+pub mod Fair
+pub mod Reached
+pub mod Whole
