@@ -6,11 +6,10 @@ use Rattle.fl_ast.specs.declared.stmt.Program.{Program}
 use Rattle.fl_ast.specs.Tree.{stmt_trees}
 use Rattle.fl_ast.specs.AdjointTree.{adjoint_tree}
 use Rattle.fl_ast.specs.Readable.{IsReadable}
-use Rattle.fl_ast.specs.ReadableAdjoint.{IsReadableAdjoint}
 use Rattle.fl_types.specs.WellTyped.{IsTyped}
 use Rattle.adjoint_rules.specs.Adjoint.{adjoint_of}
 use Rattle.adjoint_sets.specs.Names.{is_active}
-use Rattle.readable_adjoints.specs.Fitting.{are_fair}
+use Rattle.readable_adjoints.specs.Fitting.{are_fair, IsReadableWithRoom}
 use Rattle.adjoint_choices.specs.Choosing.{choices_of}
 
 abbrev pub ChoicesAreFair : Type 0
@@ -20,4 +19,4 @@ ChoicesAreFair = (p : Program) (active : List ℕ → Bool) → IsReadable p →
 abbrev pub AskedAdjointsAreReadable : Type 0
 AskedAdjointsAreReadable =
     (p : Program) (of wrt : List (List ℕ)) (needed : List ℕ → Bool) (a : Adjoint) → IsTyped p
-    → adjoint_tree a ≡ adjoint_of p (is_active p of wrt) needed (choices_of p (is_active p of wrt)) → IsReadableAdjoint a
+    → adjoint_tree a ≡ adjoint_of p (is_active p of wrt) needed (choices_of p (is_active p of wrt)) → IsReadableWithRoom a

@@ -6,7 +6,7 @@ pub fn choices_are_fair()
     ensures { ChoicesAreFair }
 {}
 
-/// The adjoint of a typed program is readable, of any names by any names. It does nothing.
+/// The adjoint of a typed program is readable with a level to spare, of any names by any names. It does nothing.
 pub fn asked_adjoints_are_readable()
     ensures { AskedAdjointsAreReadable }
 {}

@@ -25,14 +25,14 @@ use Rattle.readable_adjoints.proofs.Loops.{row_of, Nested, forward_loop_good, fo
 
 pub record GoodArms (n : ℕ) (inside : Bool) (as_ : AdjointArms) : Type 0 where
   pub readable : are_readable_adjoint_arms as_ ≡ true
-  pub levels : deepest_in_adjoint_arms as_ ≤ 256
+  pub levels : deepest_in_adjoint_arms as_ ≤ 255
   pub blocks : block_depth_of_adjoint_arms as_ ≤ n
   pub single : inside ≡ true → has_parallel_adjoints_in as_ ≡ false
 
 pub no_arms_good : (n : ℕ) (inside : Bool) → GoodArms n inside no_adjoint_arms
 no_arms_good n inside = record { readable = refl; levels = omega arith; blocks = omega arith; single = λ _. refl }
 
-pub arms_good : (n : ℕ) (inside : Bool) (test : Condition) (body : List AdjointStatement) (rest : AdjointArms) → is_readable_condition test ≡ true → condition_depth test ≤ 256 → Every (One n inside) body
+pub arms_good : (n : ℕ) (inside : Bool) (test : Condition) (body : List AdjointStatement) (rest : AdjointArms) → is_readable_condition test ≡ true → condition_depth test ≤ 255 → Every (One n inside) body
     → GoodArms n inside rest → GoodArms n inside (adjoint_arm test (adjoint_statements_of body) rest)
 arms_good n inside test body rest t d e g =
     let row = row_of n inside body e in

@@ -23,7 +23,7 @@ use Rattle.readable_adjoints.proofs.Terms.{Fine, FineAdjoint, fine_in, fine_more
 -- A statement that stands in so many blocks at most, in a parallel loop or not.
 pub record One (n : ℕ) (inside : Bool) (s : AdjointStatement) : Type 0 where
   pub readable : is_readable_adjoint_statement s ≡ true
-  pub levels : deepest_in_adjoint s ≤ 256
+  pub levels : deepest_in_adjoint s ≤ 255
   pub blocks : adjoint_block_depth s ≤ n
   pub single : inside ≡ true → has_parallel_adjoint s ≡ false
 
@@ -52,7 +52,7 @@ adjoint_target p t v = record { named = v; readable = t.readable; shallow = t.sh
 pub fine_place : (p : Designator) → Target p → FineAdjoint 65 (adjoint_get p)
 fine_place p t = let l = t.shallow in record { readable = and_from (is_variable p.name) (are_readable p.subscripts) t.named t.readable; levels = omega (arith, l) }
 
-pub one_assignment : (n : ℕ) (inside : Bool) (line : ℕ) (atomic : Bool) (p : Designator) (e : AdjointExpression) → Target p → FineAdjoint 256 e → One n inside (adjoint_assignment line atomic p e)
+pub one_assignment : (n : ℕ) (inside : Bool) (line : ℕ) (atomic : Bool) (p : Designator) (e : AdjointExpression) → Target p → FineAdjoint 255 e → One n inside (adjoint_assignment line atomic p e)
 one_assignment n inside line atomic p e t f =
     let l = f.levels in
     let k = t.shallow in
@@ -63,7 +63,7 @@ one_assignment n inside line atomic p e t f =
       single = λ _. refl;
     }
 
-pub one_push : (n : ℕ) (inside : Bool) (line : ℕ) (key e : Expression) → Fine 2 key → Fine 256 e → One n inside (push line key e)
+pub one_push : (n : ℕ) (inside : Bool) (line : ℕ) (key e : Expression) → Fine 2 key → Fine 255 e → One n inside (push line key e)
 one_push n inside line key e k f =
     let a = k.levels in
     let b = f.levels in
@@ -80,19 +80,19 @@ one_pop n inside line key p k t =
       single = λ _. refl;
     }
 
-pub one_open : (n : ℕ) (inside : Bool) (line : ℕ) (e : Expression) → Fine 256 e → One n inside (begin_tapes line e)
+pub one_open : (n : ℕ) (inside : Bool) (line : ℕ) (e : Expression) → Fine 255 e → One n inside (begin_tapes line e)
 one_open n inside line e f = record { readable = f.readable; levels = f.levels; blocks = omega arith; single = λ _. refl }
 
 pub one_close : (n : ℕ) (inside : Bool) (line : ℕ) → One n inside (end_tapes line)
 one_close n inside line = record { readable = refl; levels = omega arith; blocks = omega arith; single = λ _. refl }
 
-wider : (d : ℕ) (e : AdjointExpression) → d ≤ 256 → FineAdjoint d e → FineAdjoint 256 e
+wider : (d : ℕ) (e : AdjointExpression) → d ≤ 255 → FineAdjoint d e → FineAdjoint 255 e
 wider d e h f = let l = f.levels in record { readable = f.readable; levels = omega (arith, l, h) }
 
-pub in_wider : (d : ℕ) (e : Expression) → d ≤ 256 → Fine d e → FineAdjoint 256 (in_adjoint e)
+pub in_wider : (d : ℕ) (e : Expression) → d ≤ 255 → Fine d e → FineAdjoint 255 (in_adjoint e)
 in_wider d e h f = wider d (in_adjoint e) h (fine_in d e f)
 
-literal_fine : (n : ℕ) (k : Kind) → is_readable_adjoint (adjoint_literal n k) ≡ true → FineAdjoint 256 (adjoint_literal n k)
+literal_fine : (n : ℕ) (k : Kind) → is_readable_adjoint (adjoint_literal n k) ≡ true → FineAdjoint 255 (adjoint_literal n k)
 literal_fine n k h = record { readable = h; levels = omega arith }
 
 pub one_zeroed : (n : ℕ) (inside : Bool) (scope : Scope) (line : ℕ) (x : List ℕ) → IsVariable x → One n inside (zeroed scope line x)
@@ -129,7 +129,7 @@ forward_line n inside scope line atomic p e None S t f =
     (one_assignment n inside line atomic p (in_adjoint e) t (in_wider 64 e (omega arith) f), tt)
   where
     at : (b : Bool) → Every (One n inside) (if b then push line scope.key (target_of p) ∷ [] else [])
-    at true = (one_push n inside line scope.key (target_of p) S.key (fine_more 65 256 (target_of p) (omega arith) (fine_target p t)), tt)
+    at true = (one_push n inside line scope.key (target_of p) S.key (fine_more 65 255 (target_of p) (omega arith) (fine_target p t)), tt)
     at false = tt
 forward_line n inside scope line atomic p e (Some rs) S t f = (one_assignment n inside line atomic p (in_adjoint e) t (in_wider 64 e (omega arith) f), tt)
 

@@ -27,7 +27,7 @@ use Rattle.readable_adjoints.proofs.Fit.{GoodHead}
 
 pub record Row (n : ℕ) (inside : Bool) (ss : AdjointStatements) : Type 0 where
   pub readable : are_readable_adjoint_statements ss ≡ true
-  pub levels : deepest_in_adjoints ss ≤ 256
+  pub levels : deepest_in_adjoints ss ≤ 255
   pub blocks : block_depth_of_adjoints ss ≤ n
   pub single : inside ≡ true → has_parallel_adjoints ss ≡ false
 
@@ -112,10 +112,10 @@ settings_good n inside h g = (
 
 pushes_good : (n : ℕ) (inside : Bool) (key : Expression) (h : LoopHead) → Fine 2 key → GoodHead h → Every (One n inside) (pushes key h)
 pushes_good n inside key h k g = (
-  one_push n inside h.line key (lo h) k (fine_more 1 256 (lo h) (omega arith) (lo_fine h g)),
+  one_push n inside h.line key (lo h) k (fine_more 1 255 (lo h) (omega arith) (lo_fine h g)),
   (
-    one_push n inside h.line key (hi h) k (fine_more 1 256 (hi h) (omega arith) (hi_fine h g)),
-    (one_push n inside h.line key (by h) k (fine_more 1 256 (by h) (omega arith) (by_fine h g)), tt),
+    one_push n inside h.line key (hi h) k (fine_more 1 255 (hi h) (omega arith) (hi_fine h g)),
+    (one_push n inside h.line key (by h) k (fine_more 1 255 (by h) (omega arith) (by_fine h g)), tt),
   ),
 )
 
@@ -133,7 +133,7 @@ all_pops_good n inside key [] k gs = tt
 all_pops_good n inside key (h ∷ hs) k gs = every_append (One n inside) (all_pops key hs) (pops key h) (all_pops_good n inside key hs k gs.1) (pops_good n inside key h k gs.0)
 
 abbrev Wide : Expression → Type 0
-Wide e = Fine 256 e
+Wide e = Fine 255 e
 
 plain_loop : (n : ℕ) (inside : Bool) (h : LoopHead) (first last step : Expression) (body : List AdjointStatement) → GoodHead h → Wide first → Wide last → Wide step → Every (One n inside) body
     → One (suc n) inside (loop_over None h first last step body)
@@ -174,13 +174,13 @@ up n [] = suc n
 up n (h ∷ hs) = suc (up n hs)
 
 wide_lo : (h : LoopHead) → GoodHead h → Wide (lo h)
-wide_lo h g = fine_more 1 256 (lo h) (omega arith) (lo_fine h g)
+wide_lo h g = fine_more 1 255 (lo h) (omega arith) (lo_fine h g)
 
 wide_hi : (h : LoopHead) → GoodHead h → Wide (hi h)
-wide_hi h g = fine_more 1 256 (hi h) (omega arith) (hi_fine h g)
+wide_hi h g = fine_more 1 255 (hi h) (omega arith) (hi_fine h g)
 
 wide_by : (h : LoopHead) → GoodHead h → Wide (by h)
-wide_by h g = fine_more 1 256 (by h) (omega arith) (by_fine h g)
+wide_by h g = fine_more 1 255 (by h) (omega arith) (by_fine h g)
 
 plain_around : (n : ℕ) (inside : Bool) (h : LoopHead) (hs : List LoopHead) (body : List AdjointStatement) → GoodHead h → Every GoodHead hs → Every (One n inside) body
     → One (up n hs) inside (loops_around None h hs body)
@@ -230,7 +230,7 @@ forward_iteration_good n scope d h body statements N g gs s e = (
       (every_is IsVariable (λ x. One n true (zeroed scope h.line x)) (λ x v. one_zeroed n true scope h.line x v) (private_scalars scope h.var d body) (privates_variable scope h.var d body N)))
       (every_append (One n true) statements _ e
       (every_map (One n true) (λ x. push h.line (value k_name) (value x)) (pushed_scalars scope h.var d body)
-      (every_is IsVariable (λ x. One n true (push h.line (value k_name) (value x))) (λ x v. one_push n true h.line (value k_name) (value x) key_fine (fine_more 1 256 (value x) (omega arith) (fine_value x v)))
+      (every_is IsVariable (λ x. One n true (push h.line (value k_name) (value x))) (λ x v. one_push n true h.line (value k_name) (value x) key_fine (fine_more 1 255 (value x) (omega arith) (fine_value x v)))
       (pushed_scalars scope h.var d body) (pushed_variable scope h.var d body N)))),
 )
 
@@ -258,7 +258,7 @@ forward_parallel_good m scope d h body statements N g c t =
     let short = t.short in
     every_append (One (suc m) false) (all_settings (h ∷ hs)) _
     (every_flat (One (suc m) false) settings (h ∷ hs) (every_is GoodHead (λ i. Every (One (suc m) false) (settings i)) (λ i gi. settings_good (suc m) false i gi) (h ∷ hs) (g, t.heads))) (
-      one_open (suc m) false h.line (total h hs) (fine_more (5 + length hs) 256 (total h hs) (omega (arith, short)) (total_fine h hs g t.heads)),
+      one_open (suc m) false h.line (total h hs) (fine_more (5 + length hs) 255 (total h hs) (omega (arith, short)) (total_fine h hs g t.heads)),
       (
         one_more_block (up t.n hs) (suc m) false t.fits _ (parallel_around t.n (forward_clauses scope h.var d body) h hs _ c g t.heads (forward_iteration_good t.n scope d h body statements N g t.heads t.short t.all)),
         (
@@ -273,7 +273,7 @@ pub backward_parallel_good : (m : ℕ) (scope : Scope) (d : Directive) (h : Loop
 backward_parallel_good m scope d h body statements N g c t =
     let hs = further_loops d body in
     every_append (One (suc m) false) (all_pops main_tape (h ∷ hs)) _ (all_pops_good (suc m) false main_tape (h ∷ hs) main_fine (g, t.heads)) (
-      one_open (suc m) false h.line main_tape (fine_more 2 256 main_tape (omega arith) main_fine),
+      one_open (suc m) false h.line main_tape (fine_more 2 255 main_tape (omega arith) main_fine),
       (
         one_more_block (up t.n hs) (suc m) false t.fits _ (parallel_around t.n (backward_clauses scope h.number h.var d body) h hs _ c g t.heads (backward_iteration_good t.n scope d h body statements N g t.heads t.short t.all)),
         (one_close (suc m) false h.line, tt),
@@ -292,7 +292,7 @@ pub backward_loop_good : (n : ℕ) (inside : Bool) (scope : Scope) (h : LoopHead
     → Every (One (suc n) inside) (backward_loop scope h statements)
 backward_loop_good n inside scope h statements S g e =
     every_append (One (suc n) inside) (pops scope.key h) (loop_over None h (last_value h) (lo h) (minus (by h)) statements ∷ []) (pops_good (suc n) inside scope.key h S.key g) (
-      plain_loop n inside h (last_value h) (lo h) (minus (by h)) statements g (fine_more 8 256 (last_value h) (omega arith) (last_fine h g)) (wide_lo h g)
-          (fine_more 2 256 (minus (by h)) (omega arith) (fine_minus 1 (by h) (by_fine h g))) e,
+      plain_loop n inside h (last_value h) (lo h) (minus (by h)) statements g (fine_more 8 255 (last_value h) (omega arith) (last_fine h g)) (wide_lo h g)
+          (fine_more 2 255 (minus (by h)) (omega arith) (fine_minus 1 (by h) (by_fine h g))) e,
       tt,
     )

@@ -26,7 +26,7 @@ some_backward (arm test body rest) m scope h = refl
 arm_readable : (m : ℕ) → m ≤ 4294967296 → is_readable_condition (is_arm m) ≡ true
 arm_readable m h = is_small m h
 
-arm_shallow : (m : ℕ) → condition_depth (is_arm m) ≤ 256
+arm_shallow : (m : ℕ) → condition_depth (is_arm m) ≤ 255
 arm_shallow m = omega arith
 
 mutual

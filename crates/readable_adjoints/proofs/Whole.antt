@@ -14,7 +14,6 @@ use Rattle.fl_ast.specs.AdjointTree.{AdjointSubroutine, adjoint_tree}
 use Rattle.fl_ast.specs.Measures as size_of
 use Rattle.fl_ast.specs.Measures.{nodes_of_all, arm_nodes, statement_nodes, nodes, step_nodes}
 use Rattle.fl_ast.specs.Readable.{is_variable, is_readable_decl, is_readable_dim, is_size_of, counts_up_from, IsReadable}
-use Rattle.fl_ast.specs.ReadableAdjoint.{IsReadableAdjoint}
 use Rattle.fl_types.specs.declared.choice.Chosen.{Chosen}
 use Rattle.fl_types.specs.Sharing.{is_ring_kind}
 use Rattle.fl_types.specs.Supported.{is_declared, is_reserved}
@@ -27,7 +26,7 @@ use Rattle.adjoint_rules.specs.Declarations.{arguments, without_intent, adjoint_
 use Rattle.adjoint_rules.specs.Forward.{zeroed, forward_all}
 use Rattle.adjoint_rules.specs.Reverse.{backward_all}
 use Rattle.adjoint_rules.specs.Adjoint.{adjoint_of}
-use Rattle.readable_adjoints.specs.Fitting.{IsFitting, AdjointsAreReadable}
+use Rattle.readable_adjoints.specs.Fitting.{IsFitting, IsReadableWithRoom, AdjointsAreReadable}
 use Rattle.readable_adjoints.proofs.Every.{Every, every_append, every_map, every_flat, every_told, told_every, every_is}
 use Rattle.readable_adjoints.proofs.Times.{once_is_apart}
 use Rattle.readable_adjoints.proofs.Named.{IsVariable, IsNumber, Run, run_small, bounds_variable, adjoint_variable, adjoint_name_is}
@@ -229,7 +228,7 @@ adjoint_good p active needed choices t f =
       reverse = row_of 64 false (backward_all (stmt_trees p.body) scope) (backward_all_good (stmt_trees p.body) scope 64 false site fits);
     }
 
-told_of : (a : Adjoint) → Good (adjoint_tree a) → IsReadableAdjoint a
+told_of : (a : Adjoint) → Good (adjoint_tree a) → IsReadableWithRoom a
 told_of a g =
     let forward = g.forward in
     let reverse = g.reverse in
@@ -238,13 +237,16 @@ told_of a g =
     let forward_blocks = forward.blocks in
     let reverse_blocks = reverse.blocks in
     record {
-      name = g.name;
-      args = g.args;
-      decls = g.decls;
-      forward = forward.readable;
-      reverse = reverse.readable;
-      shallow = omega (arith, forward_levels, reverse_levels);
-      shallow_blocks = omega (arith, forward_blocks, reverse_blocks);
+      readable = record {
+        name = g.name;
+        args = g.args;
+        decls = g.decls;
+        forward = forward.readable;
+        reverse = reverse.readable;
+        shallow = omega (arith, forward_levels, reverse_levels);
+        shallow_blocks = omega (arith, forward_blocks, reverse_blocks);
+      };
+      room = omega (arith, forward_levels, reverse_levels);
     }
 
 pub readable : AdjointsAreReadable

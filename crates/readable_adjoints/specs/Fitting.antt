@@ -1,13 +1,13 @@
 -- What is asked of the active names and the choices of an adjoint, so that some text reads as it.
-use Rattle.std.specs.Prelude.{◌≡◌, ℕ, Bool, true, not, ◌&&◌, List, map, Some, None}
+use Rattle.std.specs.Prelude.{◌≡◌, ◌≤◌, max, ℕ, Bool, true, not, ◌&&◌, List, map, Some, None}
 use Rattle.std.specs.List.{list_all}
 use Rattle.fl_ast.specs.declared.decl.Decl.{Decl}
 use Rattle.fl_ast.specs.declared.directive.Directive.{Directive}
 use Rattle.fl_ast.specs.declared.adjoint.Adjoint.{Adjoint}
 use Rattle.fl_ast.specs.declared.stmt.Program.{Program}
 use Rattle.fl_ast.specs.Tree.{Statement, assignment, branch, loop, Statements, no_statements, statement, Arms, no_arms, arm, stmt_trees}
-use Rattle.fl_ast.specs.AdjointTree.{adjoint_tree}
-use Rattle.fl_ast.specs.ReadableAdjoint.{IsReadableAdjoint}
+use Rattle.fl_ast.specs.AdjointTree.{adjoint_tree, astmt_trees}
+use Rattle.fl_ast.specs.ReadableAdjoint.{IsReadableAdjoint, deepest_in_adjoints}
 use Rattle.fl_types.specs.declared.choice.Chosen.{Chosen}
 use Rattle.fl_types.specs.Sharing.{sharing_in, is_private}
 use Rattle.fl_types.specs.Supported.{is_declared}
@@ -41,8 +41,13 @@ pub record IsFitting (p : Program) (active : List ℕ → Bool) (choices : List 
   pub declared : (x : List ℕ) → active x ≡ true → is_declared p.decls x ≡ true
   pub fair : are_fair choices (map (λ (d : Decl). d.name) p.decls) (stmt_trees p.body) ≡ true
 
+-- The adjoint is readable, with a level to spare: the target of `formad_pop` stands in a bracket of its own.
+pub record IsReadableWithRoom (a : Adjoint) : Type 0 where
+  pub readable : IsReadableAdjoint a
+  pub room : max (deepest_in_adjoints (astmt_trees a.forward)) (deepest_in_adjoints (astmt_trees a.reverse)) ≤ 255
+
 -- the adjoint of a typed program, for any needed names
 abbrev pub AdjointsAreReadable : Type 0
 AdjointsAreReadable =
     (p : Program) (active needed : List ℕ → Bool) (choices : List Chosen) (a : Adjoint) → IsTyped p → IsFitting p active choices
-    → adjoint_tree a ≡ adjoint_of p active needed choices → IsReadableAdjoint a
+    → adjoint_tree a ≡ adjoint_of p active needed choices → IsReadableWithRoom a
