@@ -16,7 +16,7 @@ use Rattle.parsing.specs.declared.cursor.Word.{Word}
 use Rattle.parsing.specs.Reading.{Lexemes}
 use Rattle.parsing.specs.Terminal.{marked}
 use Rattle.parsing.specs.Grammar.{times, where_}
-use Rattle.fl_statements.specs.Limits.{the_limits}
+use Rattle.fl_statements.specs.Limits.{Limits, the_limits}
 use Rattle.fl_parser.specs.UnitGrammar as g
 use Rattle.fl_printer.specs.declared.spaced.Spaced.{Spaced}
 use Rattle.fl_printer.specs.Words.{joined, apart, intent_words, kind_words, shape_words, decl_words}
@@ -162,12 +162,14 @@ intent_back intent.Both us ws G l use_ = said_back intent.Both (codes "inout") u
 
 -- ---- declarations
 
-abbrev at : Decl → ℕ → Decl
+-- a declaration at a line
+abbrev pub at : Decl → ℕ → Decl
 at d l = record d { line = l }
 
-record IsDeclared (before : List Decl) (us : Lexemes) (d : Decl) : Type 0 where
-  line : ℕ
-  reads : g.decl the_limits before (before ++ at d line ∷ []) us
+-- within any limits
+pub record IsDeclared (limits : Limits) (before : List Decl) (us : Lexemes) (d : Decl) : Type 0 where
+  pub line : ℕ
+  pub reads : g.decl limits before (before ++ at d line ∷ []) us
 
 item_read : (d : Decl) (line : ℕ) (before : List Decl) (t : Lexeme) (us : Lexemes) → is_variable d.name ≡ true → list_all is_readable_dim d.dims ≡ true → list_all is_small_dim d.dims ≡ true → Fits t d.name → Lexed us (shape_words d.dims) →
     g.item line (d.kind, d.bytes) d.intent before (before ++ at d line ∷ []) (t ∷ us)
@@ -176,11 +178,11 @@ item_read d line before t us h i j f l =
     let x : Word = record { line = t.line; name = d.name } in
     (x, t ∷ [], us, (t, name_read t d.name h f, refl), (d.dims, us, [], shape_read d.dims us i j l, (refl, refl), sym (append-nil us)), refl)
 
-decl_by : (d : Decl) (before : List Decl) (t e : Lexeme) (ks is items : Lexemes) → marked s.Integer t ≡ Some t.line → g.kind (d.kind, d.bytes) ks → g.intent d.intent is →
+decl_by : (limits : Limits) (d : Decl) (before : List Decl) (t e : Lexeme) (ks is items : Lexemes) → marked s.Integer t ≡ Some t.line → g.kind (d.kind, d.bytes) ks → g.intent d.intent is →
     g.item t.line (d.kind, d.bytes) d.intent before (before ++ at d t.line ∷ []) items → marked s.LineEnd e ≡ Some e.line →
-    g.decl the_limits before (before ++ at d t.line ∷ []) (t ∷ (ks ++ (is ++ (items ++ e ∷ []))))
+    g.decl limits before (before ++ at d t.line ∷ []) (t ∷ (ks ++ (is ++ (items ++ e ∷ []))))
 unfolding g.decl g.items
-decl_by d before t e ks is items a b c i n =
+decl_by limits d before t e ks is items a b c i n =
     let found = before ++ at d t.line ∷ [] in (
       t.line,
       t ∷ [],
@@ -197,18 +199,18 @@ decl_by d before t e ks is items a b c i n =
       refl,
     )
 
-decl_read : (d : Decl) (before : List Decl) (us : Lexemes) → is_readable_decl d ≡ true → list_all is_small_dim d.dims ≡ true → map unplaced us ≡ words_lexemes (decl_words d) ++ end_lexeme ∷ [] → IsDeclared before us d
-decl_read d before us h i e =
+pub decl_read : (limits : Limits) (d : Decl) (before : List Decl) (us : Lexemes) → is_readable_decl d ≡ true → list_all is_small_dim d.dims ≡ true → map unplaced us ≡ words_lexemes (decl_words d) ++ end_lexeme ∷ [] → IsDeclared limits before us d
+decl_read limits d before us h i e =
     let p = and_parts (is_variable d.name) (is_size_of d.kind d.bytes && list_all is_readable_dim d.dims) h in
     let q = and_parts (is_size_of d.kind d.bytes) (list_all is_readable_dim d.dims) p.1 in
     let rows = decls_are (d ∷ []) (and_true h) (and_true i) in
-    last us (words_lexemes (decl_words d)) end_lexeme (λ v. IsDeclared before v d) e (λ vs end m n.
-    kind_back d.kind d.bytes vs (intent_words d.intent ++ (apart (codes "::") ∷ apart d.name ∷ shape_words d.dims)) (λ v. IsDeclared before (v ++ end ∷ []) d) q.0
+    last us (words_lexemes (decl_words d)) end_lexeme (λ v. IsDeclared limits before v d) e (λ vs end m n.
+    kind_back d.kind d.bytes vs (intent_words d.intent ++ (apart (codes "::") ∷ apart d.name ∷ shape_words d.dims)) (λ v. IsDeclared limits before (v ++ end ∷ []) d) q.0
     (lexed vs (decl_words d) Calm rows.0.to rows.0.flow m) (λ t ks w1 a b l1.
-    intent_back d.intent w1 (apart d.name ∷ shape_words d.dims) (λ v. IsDeclared before ((t ∷ (ks ++ v)) ++ end ∷ []) d) l1 (λ is w2 c l2.
-    first w2 _ _ (λ v. IsDeclared before ((t ∷ (ks ++ (is ++ v))) ++ end ∷ []) d) l2 (λ t2 shape f l3.
-    subst (λ (v : Lexemes). IsDeclared before v d) (regroup t end ks is (t2 ∷ shape))
-    (record { line = t.line; reads = decl_by d before t end ks is (t2 ∷ shape) a b c (item_read d t.line before t2 shape p.0 q.1 i f l3) (end_read end n) })))))
+    intent_back d.intent w1 (apart d.name ∷ shape_words d.dims) (λ v. IsDeclared limits before ((t ∷ (ks ++ v)) ++ end ∷ []) d) l1 (λ is w2 c l2.
+    first w2 _ _ (λ v. IsDeclared limits before ((t ∷ (ks ++ (is ++ v))) ++ end ∷ []) d) l2 (λ t2 shape f l3.
+    subst (λ (v : Lexemes). IsDeclared limits before v d) (regroup t end ks is (t2 ∷ shape))
+    (record { line = t.line; reads = decl_by limits d before t end ks is (t2 ∷ shape) a b c (item_read d t.line before t2 shape p.0 q.1 i f l3) (end_read end n) })))))
   where
     and_true : {b : Bool} → b ≡ true → (b && true) ≡ true
     and_true {b} h = ap (λ t. t && true) h
@@ -221,7 +223,7 @@ decl_read d before us h i e =
 abbrev times_ : ℕ → List Decl → List Decl → Lexemes → Type 0
 times_ n = times (λ found. where_ (g.may_declare the_limits found) (g.decl the_limits found)) n
 
-more_length : (ds : List Decl) (d : Decl) → length (ds ++ d ∷ []) ≡ length ds + 1
+pub more_length : (ds : List Decl) (d : Decl) → length (ds ++ d ∷ []) ≡ length ds + 1
 more_length [] d = omega arith
 more_length (x ∷ ds) d = let h = more_length ds d in omega (arith, h)
 
@@ -234,7 +236,7 @@ decls_read before (d ∷ ds) us h i k e =
     let p = and_parts (is_readable_decl d) (list_all is_readable_decl ds) h in
     let q = and_parts (list_all is_small_dim d.dims) (are_small ds) i in
     cut us (words_lexemes (decl_words d) ++ end_lexeme ∷ []) (rows_lexemes (decl_rows ds)) (λ v. AreDeclared before v (d ∷ ds)) e (λ vs ws m n.
-    let A = decl_read d before vs p.0 q.0 m in
+    let A = decl_read the_limits d before vs p.0 q.0 m in
     let l = more_length before (at d A.line) in
     let B = decls_read (before ++ at d A.line ∷ []) ds ws p.1 q.1 (omega (arith, k, l)) n in
     record {

@@ -101,11 +101,11 @@ args_read (x ∷ xs) us h l =
 
 -- ---- the first lines
 
-record IsHead (us : Lexemes) (name : List ℕ) (args : List (List ℕ)) : Type 0 where
-  head : UnitHead
-  is_name_ : head.name ≡ name
-  is_args : head.args ≡ args
-  reads : g.unit_head head us
+pub record IsHead (us : Lexemes) (name : List ℕ) (args : List (List ℕ)) : Type 0 where
+  pub head : UnitHead
+  pub is_name_ : head.name ≡ name
+  pub is_args : head.args ≡ args
+  pub reads : g.unit_head head us
 
 head_by : (line : ℕ) (name : List ℕ) (args : List (List ℕ)) (t1 t2 e1 t3 t4 e2 : Lexeme) (vs : Lexemes) → is_name name ≡ true → Fits t2 name → marked s.Subroutine t1 ≡ Some t1.line → g.args args vs →
     marked s.LineEnd e1 ≡ Some e1.line → marked s.Implicit t3 ≡ Some t3.line → marked s.NoneWord t4 ≡ Some t4.line → marked s.LineEnd e2 ≡ Some e2.line →
@@ -156,7 +156,7 @@ head_by line name args t1 t2 e1 t3 t4 e2 vs h f a b c d e k =
       );
     }
 
-head_read : (name : List ℕ) (args : List (List ℕ)) (c d : Class) (us vs : Lexemes) → is_name name ≡ true → list_all is_variable args ≡ true → Flow Calm (subroutine_words name args) c → Flow Calm (joined (codes "implicit") ∷ apart (codes "none") ∷ []) d →
+pub head_read : (name : List ℕ) (args : List (List ℕ)) (c d : Class) (us vs : Lexemes) → is_name name ≡ true → list_all is_variable args ≡ true → Flow Calm (subroutine_words name args) c → Flow Calm (joined (codes "implicit") ∷ apart (codes "none") ∷ []) d →
     map unplaced us ≡ words_lexemes (subroutine_words name args) ++ end_lexeme ∷ [] → map unplaced vs ≡ words_lexemes (joined (codes "implicit") ∷ apart (codes "none") ∷ []) ++ end_lexeme ∷ [] → IsHead (us ++ vs) name args
 head_read name args c d us vs h i f k e j =
     last us (words_lexemes (subroutine_words name args)) end_lexeme (λ v. IsHead (v ++ vs) name args) e (λ xs e1 m n.
@@ -171,11 +171,11 @@ head_read name args c d us vs h i f k e j =
 
 -- ---- the last line
 
-record IsLast (us : Lexemes) (name : List ℕ) : Type 0 where
-  line : ℕ
-  reads : g.end_unit name line us
+pub record IsLast (us : Lexemes) (name : List ℕ) : Type 0 where
+  pub line : ℕ
+  pub reads : g.end_unit name line us
 
-end_unit_read : (name : List ℕ) (us : Lexemes) → is_name name ≡ true → map unplaced us ≡ words_lexemes (last_words name) ++ end_lexeme ∷ [] → IsLast us name
+pub end_unit_read : (name : List ℕ) (us : Lexemes) → is_name name ≡ true → map unplaced us ≡ words_lexemes (last_words name) ++ end_lexeme ∷ [] → IsLast us name
 unfolding g.end_unit g.end_word g.after_end g.closing
 end_unit_read name us h e =
     let row = last_is name h in
@@ -236,7 +236,7 @@ unit_read p us r small e =
     (blocks_read (stmt_trees p.body) 64 2 false (block_from 0 0) bs r.body r.shallow r.shallow_blocks (omega (arith, statements)) r.numbered refl p4)
     (end_unit_read p.name es r.name (last_row es 0 (last_words p.name) q4)))))))
 
-both : (text : List ℕ) (ts : List Token) → map unplaced (map (lexeme text) ts) ≡ map (λ t. unplaced (lexeme text t)) ts
+pub both : (text : List ℕ) (ts : List Token) → map unplaced (map (lexeme text) ts) ≡ map (λ t. unplaced (lexeme text t)) ts
 both text [] = refl
 both text (t ∷ ts) = ap (λ us. unplaced (lexeme text t) ∷ us) (both text ts)
 
