@@ -1,0 +1,4 @@
+pub mod AdjointFit
+pub mod AdjointSteps
+pub mod AdjointTests
+pub mod ReadAdjointBlocks

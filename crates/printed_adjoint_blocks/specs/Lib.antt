@@ -1,0 +1,2 @@
+pub mod AdjointUnlined
+pub mod AdjointBlocks
