@@ -18,7 +18,8 @@ use Rattle.fl_types.specs.Sharing.{sharing_in, is_private, ParallelLoop, loops_o
 use Rattle.adjoint_rules.specs.Needed.{Kinds, kinds_of}
 use Rattle.adjoint_rules.specs.Scopes.{has_choice, is_reduction}
 use Rattle.readable_adjoints.specs.Fitting.{is_fair_loop, is_fair, are_fair, are_fair_arms}
-use Rattle.readable_adjoints.proofs.Every.{Every, every_is, told_every, every_any}
+use Rattle.readable_adjoints.proofs.Every.{Every, every_any, every_both, every_is, every_left, every_right, told_every}
+use Rattle.readable_adjoints.proofs.Named.{counts_left, counts_right, head_is}
 use Rattle.adjoint_choices.specs.Choosing.{grows_in, has_a_choice, chosen_for, choices_for, active_names, choices_of}
 use Rattle.asked_adjoints.specs.Asked.{ChoicesAreFair}
 
@@ -44,19 +45,6 @@ rising_append : (k m n : ℕ) (xs ys : List ParallelLoop) → Rising k m xs → 
 rising_append k m n [] ys h r = rising_from k m n ys h r
 rising_append k m n (x ∷ xs) ys h r = (h.0, rising_append (suc x.number) m n xs ys h.1 r)
 
-counts_left : (n : ℕ) (xs ys : List ℕ) → counts_up_from n (xs ++ ys) ≡ true → counts_up_from n xs ≡ true
-counts_left n [] ys h = refl
-counts_left n (x ∷ xs) ys h =
-    let p = and_parts (x == n) (counts_up_from (suc n) (xs ++ ys)) h in
-    and_from (x == n) (counts_up_from (suc n) xs) p.0 (counts_left (suc n) xs ys p.1)
-
-counts_right : (n m : ℕ) (xs ys : List ℕ) → m ≡ n + length xs → counts_up_from n (xs ++ ys) ≡ true → counts_up_from m ys ≡ true
-counts_right n m [] ys e h = subst (λ (i : ℕ). counts_up_from i ys ≡ true) (omega (arith, e)) h
-counts_right n m (x ∷ xs) ys e h = counts_right (suc n) m xs ys (omega (arith, e)) ((and_parts (x == n) (counts_up_from (suc n) (xs ++ ys)) h).1)
-
-first_is : (n m : ℕ) (ms : List ℕ) → counts_up_from n (m ∷ ms) ≡ true → m ≡ n
-first_is n m ms h = let t : (m == n) ≡ true = (and_parts (m == n) (counts_up_from (suc n) ms) h).0 in grind (arith, nat_tests)
-
 -- two parts of a tree
 two_rising : (k m : ℕ) (xs ys : List ℕ) (as_ bs : List ParallelLoop) → m ≡ k + length (xs ++ ys) → Rising k (k + length xs) as_ → Rising (k + length xs) (k + length xs + length ys) bs → Rising k m (as_ ++ bs)
 two_rising k m xs ys as_ bs e h r =
@@ -73,7 +61,7 @@ mutual
   rising_in (loop line number None var first last step body) outer k m is h =
       rising_from k (suc k) m (loops_of_all (var ∷ outer) body) (omega arith) (rising_all body (var ∷ outer) (suc k) m (omega (arith, is)) ((and_parts (number == k) (counts_up_from (suc k) (loop_numbers_of_all body)) h).1))
   rising_in (loop line number (Some d) var first last step body) outer k m is h =
-      let own = first_is k number (loop_numbers_of_all body) h in (
+      let own = head_is k number (loop_numbers_of_all body) h in (
         omega (arith, own),
         rising_from (suc number) (suc k) m (loops_of_all (var ∷ outer) body) (omega (arith, own))
             (rising_all body (var ∷ outer) (suc k) m (omega (arith, is)) ((and_parts (number == k) (counts_up_from (suc k) (loop_numbers_of_all body)) h).1)),
@@ -113,10 +101,6 @@ earlier l k m [] a h = tt
 earlier l k m (i ∷ ls) a h =
     let b = h.0 in
     (λ e. absurd (unlike l.number i.number (λ (q : l.number ≡ i.number). absurd (omega (arith, a, b, q))) e), earlier l (suc i.number) m ls (omega (arith, a, b)) h.1)
-
-every_both : {A : Type 0} (P Q R : A → Type 0) → ((x : A) → P x → Q x → R x) → (xs : List A) → Every P xs → Every Q xs → Every R xs
-every_both P Q R f [] h k = tt
-every_both P Q R f (x ∷ xs) h k = (f x h.0 k.0, every_both P Q R f xs h.1 k.1)
 
 own_numbers : (k m : ℕ) (ls : List ParallelLoop) → Rising k m ls → Every (λ l. Every (Only l) ls) ls
 own_numbers k m [] h = tt
@@ -175,14 +159,6 @@ unchosen_all decls k names l x (i ∷ ls) p o =
 
 abbrev IsFairLoop : List Chosen → List (List ℕ) → ParallelLoop → Type 0
 IsFairLoop choices names l = is_fair_loop choices names l.number l.var l.directive l.body ≡ true
-
-every_left : {A : Type 0} (P : A → Type 0) (xs ys : List A) → Every P (xs ++ ys) → Every P xs
-every_left P [] ys h = tt
-every_left P (x ∷ xs) ys h = (h.0, every_left P xs ys h.1)
-
-every_right : {A : Type 0} (P : A → Type 0) (xs ys : List A) → Every P (xs ++ ys) → Every P ys
-every_right P [] ys h = h
-every_right P (x ∷ xs) ys h = every_right P xs ys h.1
 
 mutual
   fair_in : (choices : List Chosen) (names : List (List ℕ)) (s : Statement) (outer : List (List ℕ)) → Every (IsFairLoop choices names) (loops_of outer s) → is_fair choices names s ≡ true

@@ -56,3 +56,15 @@ every_told t (x ∷ xs) h = let p = and_parts (t x) (list_all t xs) h in (p.0, e
 pub told_every : {A : Type 0} (t : A → Bool) (xs : List A) → Every (λ x. t x ≡ true) xs → list_all t xs ≡ true
 told_every t [] h = refl
 told_every t (x ∷ xs) h = and_from (t x) (list_all t xs) h.0 (told_every t xs h.1)
+
+pub every_both : {A : Type 0} (P Q R : A → Type 0) → ((x : A) → P x → Q x → R x) → (xs : List A) → Every P xs → Every Q xs → Every R xs
+every_both P Q R f [] h k = tt
+every_both P Q R f (x ∷ xs) h k = (f x h.0 k.0, every_both P Q R f xs h.1 k.1)
+
+pub every_left : {A : Type 0} (P : A → Type 0) (xs ys : List A) → Every P (xs ++ ys) → Every P xs
+every_left P [] ys h = tt
+every_left P (x ∷ xs) ys h = (h.0, every_left P xs ys h.1)
+
+pub every_right : {A : Type 0} (P : A → Type 0) (xs ys : List A) → Every P (xs ++ ys) → Every P ys
+every_right P [] ys h = h
+every_right P (x ∷ xs) ys h = every_right P xs ys h.1

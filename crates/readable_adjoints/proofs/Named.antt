@@ -187,13 +187,13 @@ pub record Run (ns : List ℕ) : Type 0 where
 pub run_none : Run []
 run_none = record { start = 0; counts = refl; few = omega arith }
 
-counts_left : (n : ℕ) (xs ys : List ℕ) → counts_up_from n (xs ++ ys) ≡ true → counts_up_from n xs ≡ true
+pub counts_left : (n : ℕ) (xs ys : List ℕ) → counts_up_from n (xs ++ ys) ≡ true → counts_up_from n xs ≡ true
 counts_left n [] ys h = refl
 counts_left n (x ∷ xs) ys h =
     let p = and_parts (x == n) (counts_up_from (suc n) (xs ++ ys)) h in
     and_from (x == n) (counts_up_from (suc n) xs) p.0 (counts_left (suc n) xs ys p.1)
 
-counts_right : (n m : ℕ) (xs ys : List ℕ) → m ≡ n + length xs → counts_up_from n (xs ++ ys) ≡ true → counts_up_from m ys ≡ true
+pub counts_right : (n m : ℕ) (xs ys : List ℕ) → m ≡ n + length xs → counts_up_from n (xs ++ ys) ≡ true → counts_up_from m ys ≡ true
 counts_right n m [] ys e h = subst (λ (i : ℕ). counts_up_from i ys ≡ true) (omega (arith, e)) h
 counts_right n m (x ∷ xs) ys e h = counts_right (suc n) m xs ys (omega (arith, e)) ((and_parts (x == n) (counts_up_from (suc n) (xs ++ ys)) h).1)
 
@@ -207,7 +207,7 @@ run_right xs ys r =
     let few = r.few in
     record { start = r.start + length xs; counts = counts_right r.start (r.start + length xs) xs ys refl r.counts; few = omega (arith, few, length-append xs ys) }
 
-head_is : (n m : ℕ) (ms : List ℕ) → counts_up_from n (m ∷ ms) ≡ true → m ≡ n
+pub head_is : (n m : ℕ) (ms : List ℕ) → counts_up_from n (m ∷ ms) ≡ true → m ≡ n
 head_is n m ms h = at (m == n) refl ((and_parts (m == n) (counts_up_from (suc n) ms) h).0)
   where
     at : (t : Bool) → (m == n) ≡ t → t ≡ true → m ≡ n
