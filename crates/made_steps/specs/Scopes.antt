@@ -1,0 +1,50 @@
+-- What is known of a site where statements of sweeps are made.
+use Rattle.std.specs.Prelude.{◌≡◌, ℕ, ◌<◌, Bool, true, if◌then◌else◌, List, [], map, length, Option, Some, is_some}
+use Rattle.std.specs.List.{list_all}
+
+use Rattle.fl_ast.specs.Tree.{Expression}
+use Rattle.fl_ast.specs.Same.{same_expression}
+use Rattle.fl_types.specs.Increment.{Signed, chain}
+use Rattle.fl_types.specs.Sharing.{is_ring_kind}
+use Rattle.store_core.specs.declared.layout.Shape.{Shape}
+use Rattle.store_core.specs.Keys.{slot_of}
+use Rattle.meaning.specs.Sites.{Site}
+use Rattle.resolved.specs.SlotTables.{Names, kind_at}
+use Rattle.resolved.specs.ResolvedExprs.{slot_name}
+use Rattle.sweep_trees.specs.Standing.{is_ring_fit}
+use Rattle.sweep_steps.specs.declared.step.Term.{Term}
+use Rattle.sweep_steps.specs.Steps.{TermTree, term_tree}
+use Rattle.sweep_steps.specs.StepsStand.{flags_at, signed_back}
+
+-- by slot: which names' old values are pushed at a site, and which are reductions there
+abbrev pub pushed_at : Names → Site → List Bool
+pushed_at names site = map (λ (s : Shape). site.pushed s.name) names.0
+
+abbrev pub reduced_at : Names → Site → List Bool
+reduced_at names site = map (λ (s : Shape). site.pluses s.name) names.0
+
+-- the site is of these names, with these marks, in the loops of these variables
+pub record IsScope (names : Names) (pushed accessed reduced : List Bool) (outer : List (List ℕ)) (site : Site) : Type 0 where
+  pub declares : site.declared ≡ names.3
+  pub kinds : (slot : ℕ) → slot < length names.0 → site.ring (slot_name names.0 slot) ≡ is_ring_kind (kind_at names.1 slot)
+  pub pushes : pushed_at names site ≡ pushed
+  pub accesses : flags_at names site ≡ accessed
+  pub reduces : reduced_at names site ≡ reduced
+  pub loops : site.outer ≡ outer
+
+-- each declared name has a slot
+abbrev pub are_declared_placed : Names → Bool
+are_declared_placed names = list_all (λ x. is_some (slot_of names.0 x)) names.3
+
+-- ---- terms of increments
+
+-- the further terms of what stands before a term: the target, or a chain that begins with it
+abbrev pub front_terms : Expression → Expression → Option (List Signed)
+front_terms t a = if same_expression t a then Some [] else chain t a
+
+pub record TermsStand (names : Names) (flags : List Bool) (rs : List Signed) (terms : List TermTree) : Type 0 where
+  pub back : map (signed_back names.0) terms ≡ rs
+  pub fit : list_all (λ (t : TermTree). is_ring_fit names flags t.1) terms ≡ true
+
+abbrev pub term_trees : List Term → List TermTree
+term_trees terms = map term_tree terms
