@@ -1,2 +1,4 @@
 pub mod Chains
+pub mod Scopes
+pub mod Sets
 pub mod Stores

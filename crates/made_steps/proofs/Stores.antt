@@ -10,7 +10,7 @@ use Rattle.fl_types.specs.declared.increment.IncrementForm.TheVariants.{Chain, S
 use Rattle.fl_types.specs.Increment.{Signed, target_of, chain, first_of_sum, are_free_of, if_free, either, rest_terms, increment_form, increment_terms}
 use Rattle.fl_types.specs.Accesses.{increment_kind}
 use Rattle.fl_types.specs.declared.access.AccessKind.{AccessKind}
-use Rattle.fl_types.specs.Kinds.{takes_value, kind_of_name, kind_of_expression, is_well_kinded, is_well_kinded_assignment, Names as Known}
+use Rattle.fl_types.specs.Kinds.{is_index_kind, is_index_scalar, is_index_expression, is_index_step, is_well_kinded_head, takes_value, kind_of_name, kind_of_expression, is_well_kinded, is_well_kinded_assignment, Names as Known}
 use Rattle.fl_types.specs.Sharing.{is_ring_kind}
 use Rattle.store_core.specs.declared.layout.Shape.{Shape}
 use Rattle.store_core.specs.Keys.{HasEachOnce}
@@ -190,3 +190,16 @@ updated names pushed accessed reduced outer site slot atomic plus kind target te
       place = place_at names accessed site slot p target s.accesses t;
       data_kind = ap (kind_at names.1) t.slot_is ∙ ring_target names p e rs slot once h n i;
     }
+
+is_index : (k : Kind) → is_index_kind k ≡ true → k ≡ Index
+is_index Index h = refl
+is_index Ring h = absurd (cc)
+
+-- the variable of a loop is of the index kind
+pub index_variable : (names : Names) (slot : ℕ) (first last : Expression) (step : Option Expression) → HasEachOnce names.0 → slot < length names.0
+    → is_well_kinded_head (names_at (table_site names)) (slot_name names.0 slot) first last step ≡ true → kind_at names.1 slot ≡ Index
+index_variable names slot first last step once h k =
+    let known = names_at (table_site names) in
+    let p = and_parts (is_index_scalar known (slot_name names.0 slot)) (is_index_expression known first && (is_index_expression known last && is_index_step known step)) k in
+    let q = and_parts (is_index_kind (kind_of_name known (slot_name names.0 slot))) (known.has_rank (slot_name names.0 slot) 0) p.0 in
+    is_index (kind_at names.1 slot) (ap is_index_kind (sym (kind_at_slot names slot (slot_name names.0 slot) once h refl)) ∙ q.0)

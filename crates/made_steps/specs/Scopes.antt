@@ -10,7 +10,10 @@ use Rattle.store_core.specs.declared.layout.Shape.{Shape}
 use Rattle.store_core.specs.Keys.{slot_of}
 use Rattle.meaning.specs.Sites.{Site}
 use Rattle.resolved.specs.SlotTables.{Names, kind_at}
-use Rattle.resolved.specs.ResolvedExprs.{slot_name}
+use Rattle.resolved.specs.ResolvedExprs.{slot_name, expression_back}
+use Rattle.resolved.specs.ResolvedStmts.{option_back}
+use Rattle.resolved.specs.declared.resolved.ResolvedHead.{ResolvedHead}
+use Rattle.fl_types.specs.Nests.{Head}
 use Rattle.sweep_trees.specs.Standing.{is_ring_fit}
 use Rattle.sweep_steps.specs.declared.step.Term.{Term}
 use Rattle.sweep_steps.specs.Steps.{TermTree, term_tree}
@@ -35,6 +38,16 @@ pub record IsScope (names : Names) (pushed accessed reduced : List Bool) (outer 
 -- each declared name has a slot
 abbrev pub are_declared_placed : Names → Bool
 are_declared_placed names = list_all (λ x. is_some (slot_of names.0 x)) names.3
+
+-- the head of a loop at a line
+abbrev pub head_back : List Shape → ℕ → ResolvedHead → Head
+head_back shapes line head = record {
+  line = line;
+  var = slot_name shapes head.variable;
+  first = expression_back shapes head.first;
+  last = expression_back shapes head.last;
+  step = option_back shapes head.step;
+}
 
 -- ---- terms of increments
 

@@ -1,6 +1,9 @@
 //! Statements of sweeps, made from resolved ones that are well kinded.
 #![tactic(auto)]
 
+mod heads;
+mod loops;
 mod marks;
+mod privates;
 mod store;
 mod terms;
