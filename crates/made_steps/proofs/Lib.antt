@@ -1,4 +1,5 @@
 pub mod Chains
+pub mod Nesting
 pub mod Scopes
 pub mod Sets
 pub mod Stores

@@ -4,6 +4,8 @@
 mod heads;
 mod loops;
 mod marks;
+mod nest;
 mod privates;
+mod steps;
 mod store;
 mod terms;
