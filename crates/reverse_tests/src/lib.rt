@@ -4,8 +4,18 @@
 #[cfg(test)]
 mod clauses;
 #[cfg(test)]
+mod gathers;
+#[cfg(test)]
+mod nested;
+#[cfg(test)]
 mod parallel;
 #[cfg(test)]
+mod places;
+#[cfg(test)]
 mod statements;
+#[cfg(test)]
+mod straight;
+#[cfg(test)]
+mod strides;
 #[cfg(test)]
 mod told;
