@@ -40,8 +40,8 @@ declarations_small : (active : List ℕ → Bool) (line : ℕ) (ds : List Decl) 
 declarations_small active line ds body h =
     told_every (λ (d : Decl). list_all is_small_dim d.dims) (declarations active line ds body)
     (every_append IsSmall (flat_map (declared_with_adjoint active) ds) (own_decls line ds body)
-        (every_flat IsSmall (declared_with_adjoint active) ds (every_is IsSmall (λ d. Every IsSmall (declared_with_adjoint active d)) (declared_small active) ds (every_told (λ (d : Decl). list_all is_small_dim d.dims) ds h)))
-        (own_small line ds body))
+    (every_flat IsSmall (declared_with_adjoint active) ds (every_is IsSmall (λ d. Every IsSmall (declared_with_adjoint active d)) (declared_small active) ds (every_told (λ (d : Decl). list_all is_small_dim d.dims) ds h)))
+    (own_small line ds body))
 
 decls_of : (p : Program) (active needed : List ℕ → Bool) (choices : List Chosen) (a : Adjoint) → adjoint_tree a ≡ adjoint_of p active needed choices → a.decls ≡ declarations active p.line p.decls (stmt_trees p.body)
 unfolding adjoint_of
