@@ -1,6 +1,6 @@
 -- Terms of increments.
 use Rattle.std.specs.Prelude.{◌≡◌, ℕ, Bool, true, false, if◌then◌else◌, List, [], ◌∷◌, ◌++◌, Option, Some, None, refl}
-use Rattle.std.proofs.Common.{ap, sym, ◌∙◌, subst}
+use Rattle.std.proofs.Common.{ap, sym, ◌∙◌}
 use Rattle.fl_ast.specs.declared.kind.BinOp.TheVariants.{Add, Sub}
 use Rattle.fl_ast.specs.Tree.{Expression, get, binary, Expressions}
 use Rattle.fl_ast.specs.Same.{same_expression}

@@ -2,7 +2,6 @@
 use Rattle.std.specs.Prelude.{◌≡◌, Bool, true, false, ◌&&◌, nat_eq, List, [], ◌∷◌, length, refl}
 use Rattle.std.proofs.Common.{ap, sym, ◌∙◌, get_or, subst}
 use Rattle.std.specs.Prelude.{if◌then◌else◌, Option, Some, None}
-use Rattle.std.proofs.lemmas.Bool.{and_parts}
 use Rattle.fl_ast.specs.declared.directive.Directive.{Directive}
 use Rattle.fl_ast.specs.Tree.{Statement, assignment, branch, loop, Statements}
 use Rattle.resolved.specs.SlotTables.{Names}

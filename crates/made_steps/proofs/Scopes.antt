@@ -1,12 +1,11 @@
 -- The sites in loops, and the names of parallel loops.
-use Rattle.std.specs.Prelude.{◌≡◌, ℕ, ◌<◌, Bool, true, false, not, if◌then◌else◌, ◌&&◌, ◌||◌, bytes_eq, List, [], ◌∷◌, ◌++◌, map, filter, length, Option, Some, None, is_some, refl}
+use Rattle.std.specs.Prelude.{◌≡◌, ℕ, ◌<◌, Bool, true, false, not, if◌then◌else◌, ◌&&◌, List, [], ◌∷◌, ◌++◌, map, filter, length, Option, Some, None, is_some, refl}
 use Rattle.std.specs.List.{list_all}
 use Rattle.std.proofs.Common.{ap, sym, ◌∙◌, subst}
 use Rattle.std.proofs.lemmas.Bool.{and_parts}
 use Rattle.fl_ast.specs.declared.directive.Directive.{Directive}
 use Rattle.fl_ast.specs.Tree.{Statements}
-use Rattle.fl_types.specs.declared.sharing.Sharing.TheVariants.{Shared, Private, First, Plus, LoopVar}
-use Rattle.fl_types.specs.Sharing.{has_name, varies_in, assigns_in, sharing_in, makes_accesses, is_accessed, is_plus, is_private}
+use Rattle.fl_types.specs.Sharing.{has_name, assigns_in, sharing_in, makes_accesses, is_accessed, is_plus, is_private}
 use Rattle.store_core.specs.declared.layout.Shape.{Shape}
 use Rattle.store_core.specs.Keys.{slot_of}
 use Rattle.store_core.proofs.Slots.{slot_found}
@@ -16,13 +15,13 @@ use Rattle.resolved.specs.ResolvedExprs.{slot_name}
 use Rattle.resolved.proofs.Slots.{slot_stands}
 use Rattle.sweep_trees.specs.Standing.{is_accessed_at}
 use Rattle.sweep_steps.specs.declared.step.PrivateScalar.{PrivateScalar}
-use Rattle.sweep_steps.specs.StepsStand.{flags_at, HeadStands, InnerStands, IterationsStand, PrivateStands, PrivatesStand}
+use Rattle.sweep_steps.specs.StepsStand.{HeadStands, InnerStands, IterationsStand, PrivateStands, PrivatesStand}
 use Rattle.sweep_steps.specs.Steps.{HeadTree}
 use Rattle.fl_types.specs.Nests.{Head, further_head}
 use Rattle.meaning.specs.Statements.{private_names}
 use Rattle.made_steps.specs.declared.loops.LoopNames.{LoopNames}
-use Rattle.made_steps.specs.Loops.{class_by, accessed_by, IsLoopNames, private_by, private_of, privates_of}
-use Rattle.made_steps.specs.Scopes.{IsScope, reduced_at, are_declared_placed}
+use Rattle.made_steps.specs.Loops.{class_by, accessed_by, IsLoopNames, private_by, privates_of}
+use Rattle.made_steps.specs.Scopes.{IsScope, are_declared_placed}
 use Rattle.made_steps.proofs.Stores.{marked_at}
 
 maps_same : {A B : Type 0} (f g : A → B) → ((x : A) → f x ≡ g x) → (xs : List A) → map f xs ≡ map g xs

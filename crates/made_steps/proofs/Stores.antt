@@ -7,7 +7,7 @@ use Rattle.fl_ast.specs.declared.kind.Kind.TheVariants.{Index, Ring}
 use Rattle.fl_ast.specs.Tree.{Expression, Designator}
 use Rattle.fl_types.specs.declared.increment.IncrementForm.{IncrementForm}
 use Rattle.fl_types.specs.declared.increment.IncrementForm.TheVariants.{Chain, Sum}
-use Rattle.fl_types.specs.Increment.{Signed, target_of, chain, first_of_sum, are_free_of, if_free, either, rest_terms, increment_form, increment_terms}
+use Rattle.fl_types.specs.Increment.{Signed, target_of, chain, first_of_sum, are_free_of, if_free, either, rest_terms, increment_terms}
 use Rattle.fl_types.specs.Accesses.{increment_kind}
 use Rattle.fl_types.specs.declared.access.AccessKind.{AccessKind}
 use Rattle.fl_types.specs.Kinds.{is_index_kind, is_index_scalar, is_index_expression, is_index_step, is_well_kinded_head, takes_value, kind_of_name, kind_of_expression, is_well_kinded, is_well_kinded_assignment, Names as Known}
@@ -26,9 +26,9 @@ use Rattle.resolved.specs.ResolvedStmts.{form_in, same_form}
 use Rattle.resolved.proofs.Slots.{slot_again}
 use Rattle.sweep_trees.specs.Split.{SpotTree}
 use Rattle.sweep_trees.specs.Standing.{is_accessed_at, is_ring_fit}
-use Rattle.split_trees.specs.Codes.{CodeTree, code_kind, spot_slot, table_kind, StandsFor, SpotStandsFor}
+use Rattle.split_trees.specs.Codes.{CodeTree, code_kind, spot_slot, StandsFor, SpotStandsFor}
 use Rattle.sweep_steps.specs.StepsStand.{flags_at, spot_kind, AssignStands, UpdateStands}
-use Rattle.made_steps.specs.Scopes.{IsScope, TermsStand, pushed_at, reduced_at}
+use Rattle.made_steps.specs.Scopes.{IsScope, TermsStand}
 
 -- marks that are made from names tell of a slot what they tell of its name
 pub marked_at : (f : List ℕ → Bool) (shapes : List Shape) (slot : ℕ) → slot < length shapes → is_accessed_at (map (λ (s : Shape). f s.name) shapes) slot ≡ f (slot_name shapes slot)

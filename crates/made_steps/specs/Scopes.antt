@@ -1,7 +1,6 @@
 -- What is known of a site where statements of sweeps are made.
 use Rattle.std.specs.Prelude.{◌≡◌, ℕ, ◌<◌, Bool, true, if◌then◌else◌, List, [], map, length, Option, Some, is_some}
 use Rattle.std.specs.List.{list_all}
-
 use Rattle.fl_ast.specs.Tree.{Expression}
 use Rattle.fl_ast.specs.Same.{same_expression}
 use Rattle.fl_types.specs.Increment.{Signed, chain}

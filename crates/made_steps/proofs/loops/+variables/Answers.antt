@@ -1,4 +1,4 @@
-use Rattle.std.proofs.Common.{rules, ◌≡◌, ◌||◌, bytes_eq, ap, ◌∙◌}
+use Rattle.std.proofs.Common.{rules, ◌||◌, bytes_eq, ap, ◌∙◌}
 use Rattle.fl_types.specs.Sharing.{has_name, varies_in}
 use Rattle.resolved.specs.declared.resolved.ResolvedStmt.{the_lemmas as statement_lemmas}
 use Rattle.resolved.specs.ResolvedExprs.{slot_name}

@@ -1,6 +1,5 @@
 use Rattle.std.proofs.Common.{◌≡◌, ◌∙◌, sym, subst, rules, None, Some}
 use Rattle.std.specs.Prelude.{true, false}
-use Rattle.fl_types.specs.Nests.{is_nest}
 use Rattle.resolved.specs.ResolvedStmts.{statement_back, statements_back}
 use Rattle.sweep_steps.specs.Steps.{head_tree}
 use Rattle.sweep_steps.specs.StepsStand.{InnerStands}

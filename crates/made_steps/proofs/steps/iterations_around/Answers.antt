@@ -1,4 +1,4 @@
-use Rattle.std.proofs.Common.{subst, ap, ◌∙◌, sym, Some}
+use Rattle.std.proofs.Common.{subst, sym, Some}
 use Rattle.std.proofs.lemmas.Result.{IfOk-weaker}
 use Rattle.resolved.specs.ResolvedStmts.{statements_back}
 use Rattle.sweep_steps.specs.Steps.{around_tree, head_tree, inner_tree}

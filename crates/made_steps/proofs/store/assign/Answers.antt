@@ -21,7 +21,7 @@ returns c site outer atomic sc =
     = subst (λ flags. SpotStandsFor s flags c.args.target.now.slot p (spot_tree c.in_ok-spot.spot)) c.as_slice-2.ensures c.in_ok-spot.ensures in
     let content : StandsFor s c.args.marks.now.accessed e (code_tree c.in_ok-value.value)
     = subst (λ flags. StandsFor s flags e (code_tree c.in_ok-value.value)) c.as_slice.ensures c.in_ok-value.ensures in (
-  refl,
-  assigned s c.args.pushed.now c.args.marks.now.accessed c.args.marks.now.reduced outer site c.args.target.now.slot c.is_marked-pushes.result (spot_tree c.in_ok-spot.spot) (code_tree c.in_ok-value.value) p e
-  c.requires.once (place_within (length s.0) c.args.target.now c.requires.target_within) (place_named s.0 c.args.target.now) sc c.requires.kinded c.requires.plain c.is_marked-pushes.ensures place content,
-)
+      refl,
+      assigned s c.args.pushed.now c.args.marks.now.accessed c.args.marks.now.reduced outer site c.args.target.now.slot c.is_marked-pushes.result (spot_tree c.in_ok-spot.spot) (code_tree c.in_ok-value.value) p e
+          c.requires.once (place_within (length s.0) c.args.target.now c.requires.target_within) (place_named s.0 c.args.target.now) sc c.requires.kinded c.requires.plain c.is_marked-pushes.ensures place content,
+    )

@@ -1,4 +1,4 @@
-use Rattle.std.proofs.Common.{◌≡◌, None, Some, sym, ◌∙◌, subst, rules}
+use Rattle.std.proofs.Common.{◌≡◌, Some, sym, ◌∙◌, subst, rules}
 use Rattle.made_steps.specs.Scopes.{TermsStand, term_trees}
 use Rattle.meaning.specs.Fitting.{names_at}
 use Rattle.fl_types.specs.declared.increment.IncrementForm.TheVariants.{Chain, Sum}

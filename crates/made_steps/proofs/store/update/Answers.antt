@@ -16,7 +16,7 @@ returns c site pushed outer e rs sc i ts =
     = subst (λ flags. SpotStandsFor s flags c.args.target.now.slot p (spot_tree c.in_ok-spot.spot)) c.as_slice.ensures c.in_ok-spot.ensures in
     let plus : c.is_marked.result ≡ is_accessed_at c.args.marks.now.reduced c.args.target.now.slot
     = c.is_marked.ensures ∙ ap (λ marks. is_accessed_at marks c.args.target.now.slot) c.as_slice-2.ensures in (
-  refl,
-  updated s pushed c.args.marks.now.accessed c.args.marks.now.reduced outer site c.args.target.now.slot c.args.atomic c.is_marked.result c.increment_kind-kind.result (spot_tree c.in_ok-spot.spot) (term_trees c.args.terms) p e rs
-  c.requires.once (place_within (length s.0) c.args.target.now c.requires.target_within) (place_named s.0 c.args.target.now) sc i plus c.increment_kind-kind.ensures place ts,
-)
+      refl,
+      updated s pushed c.args.marks.now.accessed c.args.marks.now.reduced outer site c.args.target.now.slot c.args.atomic c.is_marked.result c.increment_kind-kind.result (spot_tree c.in_ok-spot.spot) (term_trees c.args.terms) p e rs
+          c.requires.once (place_within (length s.0) c.args.target.now c.requires.target_within) (place_named s.0 c.args.target.now) sc i plus c.increment_kind-kind.ensures place ts,
+    )

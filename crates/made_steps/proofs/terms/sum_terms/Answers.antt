@@ -1,11 +1,11 @@
-use Rattle.std.proofs.Common.{rules, ◌≡◌, ap, sym, ◌∙◌, subst, []}
-use Rattle.fl_ast.specs.declared.kind.BinOp.TheVariants.{Add, Sub}
-use Rattle.fl_ast.specs.Tree.{get, binary}
+use Rattle.std.proofs.Common.{rules, ◌≡◌, ap, subst, []}
+use Rattle.fl_ast.specs.declared.kind.BinOp.TheVariants.{Add}
+use Rattle.fl_ast.specs.Tree.{binary}
 use Rattle.fl_types.specs.Increment.{target_of}
 use Rattle.resolved.specs.declared.resolved.ResolvedExpr.{the_lemmas as resolved_lemmas}
-use Rattle.resolved.specs.ResolvedExprs.{expression_back, expressions_back, place_back, slot_name}
+use Rattle.resolved.specs.ResolvedExprs.{expression_back, place_back}
 use Rattle.made_steps.specs.Scopes.{TermsStand, term_trees}
-use Rattle.made_steps.proofs.Chains.{added, taken, at_front, summed, none_stand}
+use Rattle.made_steps.proofs.Chains.{summed, none_stand}
 use Rattle.made_steps.proofs.terms.sum_terms.Goals as goal
 
 pub returns : goal.returns
