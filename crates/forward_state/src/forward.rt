@@ -1,7 +1,9 @@
-ghost use Rattle.std.specs.Prelude.{◌≡◌, ◌+◌, ◌||◌, is_some, List, OnOk};
+ghost use Rattle.std.specs.Prelude.{◌≡◌, ◌+◌, ◌||◌, is_some, Some, Option, pos, List, OnOk};
 ghost use Rattle.store_core.specs.Tapes.{Item};
 ghost use Rattle.meaning.specs.Expressions.{content};
-ghost use Rattle.meaning.specs.Sites.{with_tangent};
+ghost use Rattle.meaning.specs.declared.value.Value.{Value};
+ghost use Rattle.meaning.specs.declared.value.Value.TheVariants.{Index as index_value};
+ghost use Rattle.meaning.specs.Sites.{with_tangent, word_of as word_of_lem};
 ghost use Rattle.sweep_evaluation.specs.Machine.{Told};
 ghost use Rattle.sweep_law.specs.Telling.{Standing, told};
 ghost use Rattle.forward_state.specs.Holding.{Holds, Leaves, ticks_of};
@@ -160,6 +162,25 @@ impl<W: Watch> Forward<W> {
             (W.places self.old.watch) (W.places self.new.watch) W.judge (λ s. pushed s content) }
         ensures ticks { ticks_of self.new.run ≡ ticks_of self.old.run }
     {
+        self.push_word(word_of(content));
+    }
+
+    /// A number's word goes to the tape.
+    #[inline(always)]
+    pub fn push_number(&mut self, number: u64)
+        ensures left { Leaves self.old.run self.new.run (W.stands_for self.old.watch) (W.stands_for self.new.watch)
+            (W.places self.old.watch) (W.places self.new.watch) W.judge (λ s. pushed s (Some (index_value (pos number)))) }
+        ensures ticks { ticks_of self.new.run ≡ ticks_of self.old.run }
+    {
+        self.push_word(number);
+    }
+
+    #[inline(always)]
+    fn push_word(&mut self, word: u64)
+        ensures left { (v : Option Value) → word_of_lem v ≡ word → Leaves self.old.run self.new.run (W.stands_for self.old.watch) (W.stands_for self.new.watch)
+            (W.places self.old.watch) (W.places self.new.watch) W.judge (λ s. pushed s v) }
+        ensures ticks { ticks_of self.new.run ≡ ticks_of self.old.run }
+    {
         if self.run.stop.is_some() {
             return;
         }
@@ -168,7 +189,7 @@ impl<W: Watch> Forward<W> {
             return;
         }
         self.run.words += 1;
-        if push_word(&mut self.run.tape, &mut self.run.running, word_of(content)).is_err() {
+        if push_word(&mut self.run.tape, &mut self.run.running, word).is_err() {
             self.run.lost = true;
         }
     }

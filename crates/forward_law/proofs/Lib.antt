@@ -1,0 +1,16 @@
+pub mod Following
+pub mod Combining
+pub mod Stillness
+pub mod Unseen
+pub mod Wordless
+pub mod Leaves
+pub mod Noting
+pub mod Targets
+pub mod Assigned
+pub mod Heads
+pub mod Turning
+pub mod Privates
+pub mod Rounds
+pub mod Counting
+pub mod Parallel
+pub mod Statements
