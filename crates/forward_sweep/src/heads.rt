@@ -82,7 +82,7 @@ fn counted<W: Watch>(run: &mut Forward<W>, first: Index, last: Index, step: Inde
 }
 
 /// The turns of a loop.
-pub(crate) fn head_run<W: Watch>(
+pub fn head_run<W: Watch>(
     run: &mut Forward<W>,
     table: &SlotTable,
     head: &StepHead,
@@ -100,7 +100,7 @@ pub(crate) fn head_run<W: Watch>(
 }
 
 /// The same of the loop that is collapsed, where there is one.
-pub(crate) fn inner_run<W: Watch>(
+pub fn inner_run<W: Watch>(
     run: &mut Forward<W>,
     table: &SlotTable,
     inner: &Option<StepHead>,

@@ -213,7 +213,7 @@ fn update<W: Watch>(
 }
 
 /// Runs an assignment or an increment.
-pub(crate) fn run_store<W: Watch>(run: &mut Forward<W>, table: &SlotTable, store: &Store)
+pub fn run_store<W: Watch>(run: &mut Forward<W>, table: &SlotTable, store: &Store)
     ensures left { Leaves run.old.run run.new.run (W.stands_for run.old.watch) (W.stands_for run.new.watch)
         (W.places run.old.watch) (W.places run.new.watch) W.judge (store_run table.now (store_tree store.now)) }
     ensures ticks { ticks_of run.new.run ≡ ticks_of run.old.run }
