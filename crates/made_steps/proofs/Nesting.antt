@@ -7,7 +7,7 @@ use Rattle.fl_ast.specs.Tree.{Statement, assignment, branch, loop, Statements}
 use Rattle.resolved.specs.SlotTables.{Names}
 use Rattle.sweep_steps.specs.Steps.{HeadTree}
 use Rattle.sweep_steps.specs.StepsStand.{HeadStands, InnerStands}
-use Rattle.fl_types.specs.Nests.{Head, is_plain_loop, is_nest, head_of, further_head}
+use Rattle.fl_types.specs.Nests.{Head, is_plain_loop, is_nest, head_of, further_head, statements_in, iteration_body}
 use Rattle.store_core.specs.declared.layout.Shape.{Shape}
 use Rattle.resolved.specs.declared.resolved.ResolvedStmt.{ResolvedStmt}
 use Rattle.resolved.specs.ResolvedStmts.{statement_back, statements_back}
@@ -60,3 +60,18 @@ pub head_stands : (names : Names) (flags : List Bool) (s : Statement) (t : HeadT
 head_stands names flags (assignment line atomic p e) t h f = absurd (cc)
 head_stands names flags (branch line arms other) t h f = absurd (cc)
 head_stands names flags (loop line number directive var first last step body) t h f = f _ refl
+
+by_body : (b : Bool) (x y : Statements) → b ≡ true → (if b then x else y) ≡ x
+by_body true x y h = refl
+by_body false x y h = absurd (cc)
+
+-- what an iteration of a nest runs
+pub nest_body : (shapes : List Shape) (d : Directive) (xs : List ResolvedStmt) (x : ResolvedStmt) → length xs ≡ 1 → x ≡ get_or xs 0 x → is_nest d (statements_back shapes xs) ≡ true
+    → iteration_body d (statements_back shapes xs) ≡ statements_in (statement_back shapes x)
+nest_body shapes d [] x l g h = cc
+nest_body shapes d (y ∷ []) x l g h =
+    by_body (is_nest d (statements_back shapes (y ∷ []))) (statements_in (statement_back shapes y)) (statements_back shapes (y ∷ [])) h ∙ ap (λ (z : ResolvedStmt). statements_in (statement_back shapes z)) (sym g)
+nest_body shapes d (y ∷ z ∷ xs) x l g h = cc
+
+pub plain_body : (d : Directive) (body : Statements) → is_nest d body ≡ false → iteration_body d body ≡ body
+plain_body d body h = rw h refl

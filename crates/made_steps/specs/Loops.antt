@@ -12,6 +12,7 @@ use Rattle.sweep_steps.specs.declared.step.PrivateScalar.{PrivateScalar}
 use Rattle.made_steps.specs.declared.loops.Loops.{Loops, fold-Loops}
 use Rattle.made_steps.specs.declared.loops.Loops.TheOpen.{Loops-F}
 use Rattle.made_steps.specs.declared.loops.LoopNames.{LoopNames}
+use Rattle.made_steps.specs.declared.loops.ClauseNames.{ClauseNames}
 
 abbrev pub names_level : Loops-F (List (List ℕ)) → List (List ℕ)
 names_level Loops-F.Outside = []
@@ -31,6 +32,11 @@ class_by l x =
 
 abbrev pub accessed_by : LoopNames → List ℕ → Bool
 accessed_by l x = not (has_name x l.outer) && is_accessed (class_by l x)
+
+pub record AreClauseNames (c : ClauseNames) (directive : Directive) : Type 0 where
+  pub is_privates : (x : List ℕ) → has_name x c.privates ≡ has_name x directive.privates
+  pub is_firsts : (x : List ℕ) → has_name x c.firsts ≡ has_name x directive.firsts
+  pub is_pluses : (x : List ℕ) → has_name x c.pluses ≡ has_name x directive.pluses
 
 -- the sets are those of the loop
 pub record IsLoopNames (l : LoopNames) (outer : List (List ℕ)) (var : List ℕ) (directive : Directive) (body : Statements) : Type 0 where

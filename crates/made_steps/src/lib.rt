@@ -2,10 +2,15 @@
 #![tactic(auto)]
 
 mod heads;
+mod laws;
 mod loops;
 mod marks;
 mod nest;
+mod parallel;
 mod privates;
 mod steps;
 mod store;
 mod terms;
+
+pub use laws::opening_is_outside;
+pub use steps::steps_of;

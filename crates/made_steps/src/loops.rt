@@ -4,9 +4,10 @@ ghost use Rattle.std.specs.Prelude.{◌≡◌, ◌<◌, ◌||◌, ℕ, true, not
 ghost use Rattle.fl_types.specs.Sharing.{has_name, varies as varies_lem, varies_in, varies_in_arms, assigns, assigns_in, assigns_in_arms, is_accessed as is_accessed_lem, is_plus as is_plus_lem, is_private as is_private_lem};
 ghost use Rattle.resolved.specs.ResolvedExprs.{slot_name};
 ghost use Rattle.resolved.specs.ResolvedStmts.{statement_back, statements_back, arms_back, is_fit, are_fit, are_arms_fit};
-ghost use Rattle.made_steps.specs.Loops.{names_in, class_by, IsLoopNames};
+ghost use Rattle.made_steps.specs.Loops.{names_in, class_by, AreClauseNames, IsLoopNames};
 
 use fl_ast::{Directive, Memory, Name};
+use fl_base::Boxed;
 use fl_types::Sharing;
 use known_names::{Keys, keys_of};
 use resolved::{ResolvedArm, ResolvedStmt, SlotTable};
@@ -215,6 +216,33 @@ fn assigned_of<'t>(
     Ok(keys)
 }
 
+/// The names of a parallel loop's clauses.
+#[derive(Drop)]
+struct ClauseNames<'t> {
+    privates: Keys<'t>,
+    firsts: Keys<'t>,
+    pluses: Keys<'t>,
+}
+
+fn clause_names<'t>(
+    alloc: Global,
+    directive: &'t Directive,
+) -> Result<Boxed<ClauseNames<'t>>, Memory>
+    ensures { IfOk result (λ names. AreClauseNames names directive.now) }
+{
+    let privates = keys_of(alloc, directive.privates.as_slice())?;
+    let firsts = keys_of(alloc, directive.firsts.as_slice())?;
+    let pluses = keys_of(alloc, directive.pluses.as_slice())?;
+    Boxed::new(
+        alloc,
+        ClauseNames {
+            privates,
+            firsts,
+            pluses,
+        },
+    )
+}
+
 impl<'t> LoopNames<'t> {
     /// The names of a parallel loop with this variable and body, in these loops.
     pub(crate) fn of(
@@ -229,12 +257,15 @@ impl<'t> LoopNames<'t> {
         requires fit { are_fit table.now body.now ≡ true }
         ensures { IfOk result (λ names. IsLoopNames names (names_in loops.now) (slot_name table.now.0 variable) directive.now (statements_back table.now.0 body.now)) }
     {
+        let clauses = clause_names(alloc, directive)?;
         let outer = outer_of(alloc, loops)?;
         let variables = variables_of(alloc, table, variable, body)?;
-        let privates = keys_of(alloc, directive.privates.as_slice())?;
-        let firsts = keys_of(alloc, directive.firsts.as_slice())?;
-        let pluses = keys_of(alloc, directive.pluses.as_slice())?;
         let assigned = assigned_of(alloc, table, body)?;
+        let ClauseNames {
+            privates,
+            firsts,
+            pluses,
+        } = clauses.into_inner();
         Ok(LoopNames {
             outer,
             variables,

@@ -7,6 +7,7 @@ use crate::loops::LoopNames;
 use fl_base::{Items, Memory};
 use resolved::SlotTable;
 use std::alloc::Global;
+use store_core::Shape;
 
 /// Marks by slot: which names make accesses, and which of these are reductions.
 #[derive(Drop)]
@@ -43,11 +44,11 @@ fn reduced_marks(
     Ok(marks)
 }
 
-fn no_marks(alloc: Global, table: &SlotTable) -> Result<Items<bool>, Memory>
-    ensures { IfOk result (λ marks. marks ≡ map (λ (s : LaidShape). false) table.now.0) }
+fn no_marks(alloc: Global, shapes: &[Shape]) -> Result<Items<bool>, Memory>
+    ensures { IfOk result (λ marks. marks ≡ map (λ (s : LaidShape). false) shapes.now) }
 {
     let mut marks = Items::new(alloc);
-    for _shape in table.layout().shapes() {
+    for _shape in shapes {
         marks.push(false)?;
     }
     Ok(marks)
@@ -55,12 +56,12 @@ fn no_marks(alloc: Global, table: &SlotTable) -> Result<Items<bool>, Memory>
 
 impl Marks {
     /// Outside of parallel loops nothing is marked.
-    pub(crate) fn outside(alloc: Global, table: &SlotTable) -> Result<Marks, Memory>
-        ensures accessed { IfOk result (λ marks. marks.accessed ≡ map (λ (s : LaidShape). false) table.now.0) }
-        ensures reduced { IfOk result (λ marks. marks.reduced ≡ map (λ (s : LaidShape). false) table.now.0) }
+    pub(crate) fn outside(alloc: Global, shapes: &[Shape]) -> Result<Marks, Memory>
+        ensures accessed { IfOk result (λ marks. marks.accessed ≡ map (λ (s : LaidShape). false) shapes.now) }
+        ensures reduced { IfOk result (λ marks. marks.reduced ≡ map (λ (s : LaidShape). false) shapes.now) }
     {
-        let accessed = no_marks(alloc, table)?;
-        let reduced = no_marks(alloc, table)?;
+        let accessed = no_marks(alloc, shapes)?;
+        let reduced = no_marks(alloc, shapes)?;
         Ok(Marks { accessed, reduced })
     }
 

@@ -1,5 +1,5 @@
 ghost use Rattle.std.specs.Prelude.{◌≡◌, true, ℕ, None, length, is_some, Bool, Some, List, IfOk};
-ghost use Rattle.fl_ast.specs.Tree.{Expression};
+ghost use Rattle.fl_ast.specs.Tree.{Expression, assignment};
 ghost use Rattle.fl_types.specs.Accesses.{increment_kind as increment_kind_lem};
 ghost use Rattle.fl_types.specs.Increment.{Signed, target_of, increment_terms};
 ghost use Rattle.fl_types.specs.Kinds.{is_well_kinded_assignment};
@@ -10,8 +10,8 @@ ghost use Rattle.resolved.specs.SlotTables.{table_site, is_ring_in};
 ghost use Rattle.resolved.specs.ResolvedExprs.{expression_back, place_back, is_within, is_place_within};
 ghost use Rattle.resolved.specs.ResolvedStmts.{form_in, same_form};
 ghost use Rattle.split_trees.specs.Codes.{is_kinded};
-ghost use Rattle.sweep_steps.specs.Steps.{store_tree};
-ghost use Rattle.sweep_steps.specs.StepsStand.{StoreStands};
+ghost use Rattle.sweep_steps.specs.Steps.{store_tree, step_tree};
+ghost use Rattle.sweep_steps.specs.StepsStand.{StoreStands, Stands};
 ghost use Rattle.made_steps.specs.Scopes.{IsScope, TermsStand, term_trees};
 
 use crate::marks::Marks;
@@ -22,7 +22,7 @@ use fl_types::{AccessKind, IncrementForm};
 use resolved::{ResolvedExpr, ResolvedPlace, SlotTable};
 use split_trees::{is_marked, split_expression, split_place};
 use std::alloc::Global;
-use sweep_steps::{Store, Term};
+use sweep_steps::{Flow, Step, Store, Term};
 
 fn increment_kind(atomic: bool, plus: bool) -> AccessKind
     ensures { result ≡ increment_kind_lem atomic plus }
@@ -93,7 +93,7 @@ fn update(
 }
 
 /// An assignment, or an increment of the form.
-pub(crate) fn make_store(
+fn make_store(
     alloc: Global,
     table: &SlotTable,
     pushed: &[bool],
@@ -123,4 +123,30 @@ pub(crate) fn make_store(
             update(alloc, table, marks, line, atomic, target, terms)
         }
     }
+}
+
+/// The step of an assignment.
+pub(crate) fn store_step(
+    alloc: Global,
+    table: &SlotTable,
+    pushed: &[bool],
+    marks: &Marks,
+    line: u32,
+    atomic: bool,
+    target: &ResolvedPlace,
+    value: &ResolvedExpr,
+    form: Option<IncrementForm>,
+) -> Result<Step, Memory>
+    requires once { HasEachOnce table.now.0 }
+    requires target_within { is_place_within (length table.now.0) target.now ≡ true }
+    requires value_within { is_within (length table.now.0) value.now ≡ true }
+    requires kinded { is_well_kinded_assignment (names_at (table_site table.now)) (place_back table.now.0 target.now) (expression_back table.now.0 value.now) ≡ true }
+    requires formed { same_form form (form_in table.now (place_back table.now.0 target.now) (expression_back table.now.0 value.now)) ≡ true }
+    ensures { (site : Site) → (outer : List (List ℕ)) → IsScope table.now pushed.now marks.now.accessed marks.now.reduced outer site
+        → IfOk result (λ step. Stands table.now site (step_tree step) (assignment line atomic (place_back table.now.0 target.now) (expression_back table.now.0 value.now))) }
+{
+    let store = make_store(
+        alloc, table, pushed, marks, line, atomic, target, value, form,
+    )?;
+    Ok(Flow::Store(store))
 }

@@ -5,7 +5,7 @@ use Rattle.sweep_steps.specs.Steps.{around_tree, head_tree, inner_tree}
 use Rattle.sweep_steps.specs.StepsStand.{AroundStands}
 use Rattle.made_steps.specs.Scopes.{head_back}
 use Rattle.made_steps.proofs.Scopes.{iterations_stand}
-use Rattle.made_steps.proofs.steps.iterations_around.Goals as goal
+use Rattle.made_steps.proofs.parallel.iterations_around.Goals as goal
 
 pub returns : goal.returns
 returns c site reduced outer s n =
