@@ -6,7 +6,7 @@ use fl_base::Memory;
 use fl_lexer::lex;
 use fl_parser::{ParseError, parse};
 use fl_printer::print;
-use std::alloc::Global;
+use std::alloc::{AllocError, Global};
 use std::fmt::Write;
 use std::process::Abort;
 
@@ -57,8 +57,15 @@ fn expect_all_alike<R: Abort>(rt: &R, alloc: Global, rows: &[(&str, &str)]) -> S
     Ok(())
 }
 
+/// What a text is printed as is printed as it stands.
+pub(crate) fn expect_reprinted<R: Abort>(rt: &R, alloc: Global, text: &str) -> Shown {
+    let mut printed = String::new(alloc);
+    tell(&mut printed, alloc, text)?;
+    expect_printed(rt, alloc, printed.as_str(), printed.as_str())
+}
+
 /// Texts, with what they are printed as. Those at the end have lines of 118 to 121 bytes and more, before they are broken.
-static TEXTS: [(&str, &str); 14] = [
+static TEXTS: [(&str, &str); 15] = [
     (
         "subroutine poly(x, y)\n  !\n  integer(kind=8) :: x, y\n  y = x*x + 3*x\nend subroutine poly\n",
         "subroutine poly(x, y)\n  implicit none\n  integer(kind=8) :: x\n  integer(kind=8) :: y\n  y = (x*x)+(3*x)\nend subroutine poly\n",
@@ -74,6 +81,10 @@ static TEXTS: [(&str, &str); 14] = [
     (
         "subroutine s(x)\ninteger, intent(in) :: x\ninteger(kind=4), intent(out) :: y\ny = +x-((-x)+1)-1\nx = (x**2)**3\nend\n",
         "subroutine s(x)\n  implicit none\n  integer(kind=4), intent(in) :: x\n  integer(kind=4), intent(out) :: y\n  y = (x-((-x)+1))-1\n  x = (x**2)**3\nend subroutine s\n",
+    ),
+    (
+        "subroutine s\ny = max(min(-1, abs(x(c(c(1)), mod(-i, 3)))), -(2_8**3))*(-7)/(a**0)-(-(-(b)))\nend\n",
+        "subroutine s()\n  implicit none\n  y = ((max(min(-1, abs(x(c(c(1)), mod(-i, 3)))), -(2_8**3))*(-7))/(a**0))-(-(-b))\nend subroutine s\n",
     ),
     (
         "subroutine s\ny = aaaaaaaaaaaaaaaaaaaaaaaaaaaaaaaaaaaaaaaaaaaaaaaaaaaaaaaaaaaaa+&\nbbbbbbbbbbbbbbbbbbbbbbbbbbbbbbbbbbbbbbbbbbbbbbbbbbb\nend\n",
@@ -136,6 +147,29 @@ fn push_listing(text: &mut String) -> Shown {
     text.push_str("!$omp )\ndo i = n, n\nend do\nend\n")
 }
 
+/// `(part+part)`, in two lines.
+fn doubled(alloc: Global, part: &str) -> Result<String, AllocError> {
+    let mut sum = String::new(alloc);
+    sum.push('(')
+        .and(sum.push_str(part))
+        .and(sum.push_str("+&\n"))
+        .and(sum.push_str(part))
+        .and(sum.push(')'))?;
+    Ok(sum)
+}
+
+/// A program of one statement, of more than 4,000 tokens.
+fn push_sum(text: &mut String, alloc: Global) -> Shown {
+    let mut sum = String::new(alloc);
+    sum.push('x')?;
+    for _ in 0..10u32 {
+        sum = doubled(alloc, sum.as_str())?;
+    }
+    text.push_str("subroutine s\ny = ")
+        .and(text.push_str(sum.as_str()))
+        .and(text.push_str("\nend\n"))
+}
+
 /// The number of lines, and the length of the longest.
 fn measured(text: &[u8]) -> (usize, usize) {
     let mut lines = 0usize;
@@ -170,22 +204,45 @@ fn push_printed_listing(out: &mut String, alloc: Global) -> Shown {
     tell(out, alloc, text.as_str())
 }
 
+fn push_printed_sum(out: &mut String, alloc: Global) -> Shown {
+    let mut text = String::new(alloc);
+    push_sum(&mut text, alloc)?;
+    tell(out, alloc, text.as_str())
+}
+
 fn show_measures(out: &mut String, alloc: Global, text: &[u8]) -> Shown {
     let (lines, longest) = measured(text);
     let tokens = counted(alloc, text);
     write!(out, "lines {lines} longest {longest} tokens {tokens}")
 }
 
-fn expect_measures<R: Abort>(rt: &R, alloc: Global, wanted: &str) -> Shown {
-    let mut printed = String::new(alloc);
-    push_printed_listing(&mut printed, alloc)?;
+fn expect_measures<R: Abort>(rt: &R, alloc: Global, printed: &str, wanted: &str) -> Shown {
     let mut told = String::new(alloc);
     show_measures(&mut told, alloc, printed.as_bytes())?;
-    expect(rt, told.as_str(), wanted, printed.as_str());
-    Ok(())
+    expect(rt, told.as_str(), wanted, printed);
+    expect_printed(rt, alloc, printed, printed)
 }
 
 #[test]
 fn a_long_directive_is_broken(rt: HostRuntime) -> Shown {
-    expect_measures(&rt, rt.alloc(), "lines 131 longest 113 tokens 1028")
+    let mut printed = String::new(rt.alloc());
+    push_printed_listing(&mut printed, rt.alloc())?;
+    expect_measures(
+        &rt,
+        rt.alloc(),
+        printed.as_str(),
+        "lines 131 longest 113 tokens 1028",
+    )
+}
+
+#[test]
+fn a_long_statement_is_broken(rt: HostRuntime) -> Shown {
+    let mut printed = String::new(rt.alloc());
+    push_printed_sum(&mut printed, rt.alloc())?;
+    expect_measures(
+        &rt,
+        rt.alloc(),
+        printed.as_str(),
+        "lines 40 longest 120 tokens 4106",
+    )
 }

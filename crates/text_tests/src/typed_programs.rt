@@ -1,5 +1,6 @@
 //! Whole programs.
 
+use crate::printed::expect_reprinted;
 use crate::rows::Shown;
 use crate::typed::expect_typed;
 use fl_base::Memory;
@@ -275,6 +276,24 @@ fn expect_programs<R: Abort>(rt: &R, alloc: Global, programs: &[Program]) -> Res
         expect_program(rt, alloc, program)?;
     }
     Ok(())
+}
+
+fn expect_alike<R: Abort>(rt: &R, alloc: Global, program: &Program) -> Shown {
+    let mut text = String::new(alloc);
+    push_program(&mut text, program)?;
+    expect_reprinted(rt, alloc, text.as_str())
+}
+
+fn expect_all_alike<R: Abort>(rt: &R, alloc: Global, programs: &[Program]) -> Shown {
+    for program in programs {
+        expect_alike(rt, alloc, program)?;
+    }
+    Ok(())
+}
+
+#[test]
+fn programs_are_printed_alike(rt: HostRuntime) -> Shown {
+    expect_all_alike(&rt, rt.alloc(), &PROGRAMS)
 }
 
 #[test]
