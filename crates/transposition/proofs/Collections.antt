@@ -15,8 +15,7 @@ use Rattle.operations.proofs.Collects.{additions_collect, collected_ops}
 use Rattle.meaning.specs.Logs.{Log}
 use Rattle.meaning.specs.Sites.{place_of}
 use Rattle.transposition.specs.Worlds.{World, Local, is_one_step, is_reduction, name_at}
-use Rattle.transposition.specs.Reads.{place_or_zero}
-use Rattle.transposition.specs.Back.{with_collection, with_collections}
+use Rattle.transposition.specs.Back.{with_collection, with_collection_at, with_collections}
 use Rattle.transposition.specs.Law.{CoverAt, place_of_cell, Cover, CoverAll}
 use Rattle.transposition.specs.Sound.{Common, AllSummed}
 use Rattle.transposition.proofs.Split.{is_less, is_not_less}
@@ -119,18 +118,18 @@ reduction_of Shared h = cc
 reduction_of Atomic h = cc
 
 name_collected : (w : World) (ts : Log) (x : List ℕ) (t : Tree Local) (c : List ℕ) (b : Bool) → (w.active x && is_reduction (w.choice x)) ≡ b → AllAccessed w → ((w.active x && is_reduction (w.choice x)) ≡ true → Common w x) → CoverAll w ts (play t c).ops
-    → ((p : ℕ) → p < w.shared → slice_index (play t c).cells (w.shared + p) < 2 ^ 64) → Collected w ts (play (cond b (with_collection (w.shared + place_or_zero (place_of w.site x [])) t) t) c) (play t c)
+    → ((p : ℕ) → p < w.shared → slice_index (play t c).cells (w.shared + p) < 2 ^ 64) → Collected w ts (play (cond b (with_collection_at w (place_of w.site x []) t) t) c) (play t c)
 name_collected w ts x t c false e all common h small = itself w ts (play t c) h
 name_collected w ts x t c true e all common h small =
     let k = common e in
     let st = stands w.site.keys x [] k.q k.place in
-    subst (λ (o : Option ℕ). Collected w ts (play (with_collection (w.shared + place_or_zero o) t) c) (play t c)) (sym k.place)
-    (one_collected w ts k.q t c all k.shared (ap w.choice st.named ∙ reduction_of (w.choice x) (and_parts (w.active x) (is_reduction (w.choice x)) e).1) h (small k.q k.shared))
+    subst (λ (o : Option ℕ). Collected w ts (play (with_collection_at w o t) c) (play t c)) (sym k.place)
+    (rw (is_less k.q w.shared k.shared) (one_collected w ts k.q t c all k.shared (ap w.choice st.named ∙ reduction_of (w.choice x) (and_parts (w.active x) (is_reduction (w.choice x)) e).1) h (small k.q k.shared)))
 
 pub collections_played : (w : World) (ts : Log) (names : List (List ℕ)) (t : Tree Local) (c : List ℕ) → AllAccessed w → AllSummed w names → CoverAll w ts (play t c).ops → ((p : ℕ) → p < w.shared → slice_index (play t c).cells (w.shared + p) < 2 ^ 64)
     → Collected w ts (play (with_collections w names t) c) (play t c)
 collections_played w ts [] t c all common h small = itself w ts (play t c) h
 collections_played w ts (x ∷ xs) t c all common h small =
     let one = name_collected w ts x t c (w.active x && is_reduction (w.choice x)) refl all common.0 h small in
-    let more = collections_played w ts xs (cond (w.active x && is_reduction (w.choice x)) (with_collection (w.shared + place_or_zero (place_of w.site x [])) t) t) c all common.1 one.cover (λ p i. subst (λ (d : List ℕ). slice_index d (w.shared + p) < 2 ^ 64) (sym one.cells) (small p i)) in
+    let more = collections_played w ts xs (cond (w.active x && is_reduction (w.choice x)) (with_collection_at w (place_of w.site x []) t) t) c all common.1 one.cover (λ p i. subst (λ (d : List ℕ). slice_index d (w.shared + p) < 2 ^ 64) (sym one.cells) (small p i)) in
     record { out = more.out ∙ one.out; cells = more.cells ∙ one.cells; cover = more.cover }

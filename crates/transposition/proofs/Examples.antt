@@ -1,5 +1,5 @@
 -- Reverse parts compute: operations, and adjoints as the unit directions give them.
-use Rattle.std.specs.Prelude.{◌≡◌, ℕ, List, [], ◌∷◌, map, None, pos, refl, codes, bytes_eq, true, if◌then◌else◌, ◌||◌, Ok}
+use Rattle.std.specs.Prelude.{◌≡◌, ℕ, List, [], ◌∷◌, map, None, Some, pos, negsuc, refl, codes, bytes_eq, true, if◌then◌else◌, ◌||◌, Ok}
 use Rattle.fl_ast.specs.declared.kind.Kind.TheVariants as kind
 use Rattle.fl_ast.specs.declared.kind.Fun.TheVariants.{Max}
 use Rattle.fl_ast.specs.declared.directive.Directive.{Directive}
@@ -14,9 +14,10 @@ use Rattle.meaning.specs.Sites.{Cells, Site, opening_site}
 use Rattle.meaning.specs.Statements.{run_all}
 use Rattle.meaning.specs.Adjoints.{adjoint_at}
 use Rattle.meaning.proofs.Small.{declared, scalar, array, word, number, one, name, at, to, into, ◌plus◌, ◌times◌, only, set, clauses, parallel, all_pushed}
-use Rattle.transposition.specs.Tapes.{Tape, empty, tape_after}
-use Rattle.transposition.specs.Worlds.{World, Local}
-use Rattle.transposition.specs.Back.{back_all}
+use Rattle.transposition.specs.Tapes.{Tape, empty, word as tape_word, tape_after}
+use Rattle.transposition.specs.Worlds.{World, Local, with_own_value}
+use Rattle.transposition.specs.Reads.{number_in}
+use Rattle.transposition.specs.Back.{turns_on, back_all}
 
 abbrev n : List ℕ
 n = codes "n"
@@ -140,3 +141,23 @@ products_adjoints = refl
 products_end : products_back.cells ≡ 2 ∷ 3 ∷ 5 ∷ 0 ∷ 0 ∷ 0 ∷ 0 ∷ 0 ∷ 556 ∷ 10330 ∷ 0 ∷ 0 ∷ 0 ∷ 0 ∷ []
 unfolding exact_index
 products_end = refl
+
+-- ---- words that no run leaves
+
+-- the high half of a word doesn't count
+high_half : number_in 12884901887 ≡ negsuc 0
+high_half = refl
+
+-- a step of 0 makes no turns
+no_turns : (t : Tape) → (turns_on (tape_word 0 (tape_word 5 (tape_word 1 t)))).count ≡ 0
+no_turns t = refl
+
+-- a word of a place below the iteration's own stays, as it does where there is no place
+below : with_own_value mixed_world (Some 3) 9 (begin empty (1 ∷ 2 ∷ []) []) ≡ begin empty (1 ∷ 2 ∷ []) []
+below = refl
+
+own : with_own_value mixed_world (Some 6) 9 (begin empty (1 ∷ 2 ∷ []) []) ≡ begin empty (1 ∷ 9 ∷ []) []
+own = refl
+
+nowhere : with_own_value mixed_world None 9 (begin empty (1 ∷ 2 ∷ []) []) ≡ begin empty (1 ∷ 2 ∷ []) []
+nowhere = refl

@@ -1,7 +1,7 @@
 -- Values without their tangents: operations give the same, without tangents.
 use Rattle.std.proofs.Common.{◌≡◌, ℕ, zero, suc, ◌<◌, ◌^◌, List, [], ◌∷◌, refl, ap, ◌∙◌, arith, Bool, true, false, Some, Result, Ok, Err, ℤ, pos, negsuc}
-use Rattle.std.specs.Prelude.{int_le, int_lt, if◌then◌else◌}
-use Rattle.std.specs.Int.{w64, cast_signed, cast_unsigned}
+use Rattle.std.specs.Prelude.{int_le, int_lt, if◌then◌else◌, ◌%◌}
+use Rattle.std.specs.Int.{w32, w64, cast_signed, cast_unsigned}
 use Rattle.std.proofs.lemmas.Int.{to_z-of_z}
 use Rattle.std.proofs.lemmas.Bool.Decides.{nat_tests}
 use mir.Val.{SFits}
@@ -21,7 +21,7 @@ use Rattle.meaning.specs.declared.value.Value.{Value}
 use Rattle.meaning.specs.declared.value.Value.TheVariants.{Index, Ring}
 use Rattle.meaning.specs.Values.{Found, of_index, dual_mul, dual_pow, as_dual, rank, ranks, compares, whole_numbers, literal_value, index_result, ring_result, binary_result, negation_result, power_result, larger_result, smaller_result, absolute_result, remainder, on_one, on_two, call_result, relates}
 use Rattle.meaning.specs.Sites.{word_of}
-use Rattle.transposition.specs.Reads.{value_from}
+use Rattle.transposition.specs.Reads.{number_in, value_from}
 use Rattle.meaning.specs.Fitting.{HasKind}
 
 abbrev pub flat_value : Value → Value
@@ -37,12 +37,16 @@ same a = a
 
 -- ---- a word read back
 
-fits_word : (z : ℤ) → IsIndex z → SFits w64 z
-fits_word (pos n) e = let b : n < 2 ^ 63 = grind (arith, nat_tests) in record { sfits = b }
-fits_word (negsuc n) e = let b : n < 2 ^ 63 = grind (arith, nat_tests) in record { sfits = b }
+low_half : (z : ℤ) → IsIndex z → cast_unsigned w64 z % 2 ^ 32 ≡ cast_unsigned w32 z
+low_half (pos n) e = let b : n < 2147483648 = grind (arith, nat_tests) in omega arith
+low_half (negsuc n) e = let b : n < 2147483648 = grind (arith, nat_tests) in omega arith
 
-pub read_back : (z : ℤ) → IsIndex z → cast_signed w64 (cast_unsigned w64 z) ≡ z
-read_back z h = to_z-of_z w64 z (fits_word z h)
+fits_half : (z : ℤ) → IsIndex z → SFits w32 z
+fits_half (pos n) e = let b : n < 2 ^ 31 = grind (arith, nat_tests) in record { sfits = b }
+fits_half (negsuc n) e = let b : n < 2 ^ 31 = grind (arith, nat_tests) in record { sfits = b }
+
+pub read_back : (z : ℤ) → IsIndex z → number_in (cast_unsigned w64 z) ≡ z
+read_back z h = ap (cast_signed w32) (low_half z h) ∙ to_z-of_z w32 z (fits_half z h)
 
 pub decoded : (k : Kind) (v : Value) → HasKind k v → value_from k (word_of (Some v)) ≡ flat_value v
 decoded kind.Ring (Ring d) h = refl

@@ -21,13 +21,12 @@ use Rattle.meaning.specs.Statements.{Run, turns_of, value_at, set_at, set_log_at
 use Rattle.meaning.proofs.Variables.{variables_fit}
 use Rattle.meaning.proofs.Parts.{bound}
 use Rattle.transposition.specs.Tapes.{Tape, word, tape_after}
-use Rattle.transposition.specs.Worlds.{World, Local, name_at, with_value}
-use Rattle.transposition.specs.Reads.{place_or_zero}
+use Rattle.transposition.specs.Worlds.{World, Local, name_at, with_own_value}
 use Rattle.transposition.specs.Back.{turns_on, below_bounds, heads_on, variables_of, with_variable_words}
 use Rattle.transposition.specs.Law.{Use, local, Fit, Within}
 use Rattle.meaning.specs.Fitting.{HasKind}
 use Rattle.transposition.specs.Sound.{AllOwn, Literals, OptionLiterals, HeadLiterals}
-use Rattle.transposition.proofs.Split.{set_own, cells_kept}
+use Rattle.transposition.proofs.Split.{own_value_set, cells_kept}
 use Rattle.transposition.proofs.Keys.{stands}
 use Rattle.transposition.proofs.Places.{content_set_same, content_set_other}
 use Rattle.transposition.proofs.Kept.{fit_set}
@@ -153,7 +152,7 @@ set_cells site (x ∷ xs) s = set_cells site xs (set_at (place_of site x.0 []) (
 
 abbrev pub set_words : World → Settings → Local → Local
 set_words w [] l = l
-set_words w (x ∷ xs) l = set_words w xs (with_value w (place_or_zero (place_of w.site x.0 [])) (cast_unsigned w64 x.1) l)
+set_words w (x ∷ xs) l = set_words w xs (with_own_value w (place_of w.site x.0 []) (cast_unsigned w64 x.1) l)
 
 pub words_set : (w : World) (hs : Heads) (k : ℕ) (l : Local) → with_variable_words w hs k l ≡ set_words w (settings hs k) l
 words_set w [] k l = refl
@@ -231,8 +230,8 @@ variables_set w (x ∷ xs) s t vs bs h =
     let s1 : Cells = slice_set s q (Some (Index x.1)) in
     let k = variables_set w xs s1 t (slice_set vs q n) bs h.1 in
     let first-cells : set_cells w.site (x ∷ xs) s ≡ set_cells w.site xs s1 = ap (set_cells w.site xs) (set_at_is w.site x.0 q (Some (Index x.1)) s h.0.place) in
-    let first : with_value w (place_or_zero (place_of w.site x.0 [])) n (local w.shared t vs bs) ≡ local w.shared t (slice_set vs q n) bs =
-    ap (λ (o : Option ℕ). with_value w (place_or_zero o) n (local w.shared t vs bs)) h.0.place ∙ ap (λ (l : List ℕ). record { tape = t; values = l; adjoints = drop w.shared bs }) (set_own w.shared q n vs h.0.own) in
+    let first : with_own_value w (place_of w.site x.0 []) n (local w.shared t vs bs) ≡ local w.shared t (slice_set vs q n) bs =
+    own_value_set w (place_of w.site x.0 []) q n t vs bs h.0.place h.0.own in
     record {
       size = ap length first-cells ∙ (k.size ∙ length-set s q (Some (Index x.1)));
       same = λ p e. ap (λ (c : Cells). content c p) first-cells

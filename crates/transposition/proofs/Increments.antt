@@ -31,7 +31,7 @@ use Rattle.ring_core.specs.Ring.{ring_add, ring_sub}
 use Rattle.meaning.specs.Adjoints.{tangent_of}
 use Rattle.meaning.proofs.Parts.{TermsRun, bound, terms_run}
 use Rattle.transposition.specs.Tapes.{Tape, tape_after}
-use Rattle.transposition.specs.Worlds.{World, Local, value_increment, name_at}
+use Rattle.transposition.specs.Worlds.{World, Local, at_place, value_increment, name_at}
 use Rattle.transposition.specs.Reads.{place_tree}
 use Rattle.transposition.specs.Spread.{increments}
 use Rattle.transposition.specs.Back.{adjoint_tree, rest_tree, increment_reversal, rest_occurrences, increment_back}
@@ -309,12 +309,12 @@ ungrown_ran w u s vs bs t ts atomic p rs s2 fit sound k told subs covered l wide
     free_terms rs q h = needs_terms_without u p.name rs q h
 
     by_push : (b : Bool) → w.site.pushed p.name ≡ b
-        → Ungrown w u ts (play (cond b (and_then (rest_tree w rs 0 m) (λ a. and_then (place_tree p w m) (λ q. value_increment w one q a m))) (done m)) c) t s bs
+        → Ungrown w u ts (play (cond b (and_then (rest_tree w rs 0 m) (λ a. and_then (place_tree p w m) (at_place (done m) (λ q. value_increment w one q a m)))) (done m)) c) t s bs
     by_push true e =
         let terms : Got w ts c (play (rest_tree w rs 0 m) c) a silence = rest_got w (without p.name u) s vs bs t ts sc rs k.ds 0 (free_terms rs (sound.terms e) sound.apart) k.out told in
-        let place : Got w ts c (play (place_tree p w m) c) k.q silence = place_got w (without p.name u) s vs bs t ts sc p k.q (needs_all_without u p.name p.subscripts (sound.target.undone e) sound.target.free) at in
-        rw (got_then w ts silence (rest_tree w rs 0 m) (λ a. and_then (place_tree p w m) (λ q. value_increment w one q a m)) c a terms)
-        (rw (got_then w ts silence (place_tree p w m) (λ q. value_increment w one q a m) c k.q place)
+        let place : Got w ts c (play (place_tree p w m) c) (Some k.q) silence = place_got w (without p.name u) s vs bs t ts sc p k.q (needs_all_without u p.name p.subscripts (sound.target.undone e) sound.target.free) at in
+        rw (got_then w ts silence (rest_tree w rs 0 m) (λ a. and_then (place_tree p w m) (at_place (done m) (λ q. value_increment w one q a m))) c a terms)
+        (rw (got_then w ts silence (place_tree p w m) (at_place (done m) (λ q. value_increment w one q a m)) c (Some k.q) place)
         (rw (grow_value_played w one t k.q a vs bs (room w (without p.name u) s vs bs sc)) (record {
           vs1 = slice_set vs k.q (ring_add (slice_index vs k.q) a);
           out = refl;

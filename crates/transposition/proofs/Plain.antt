@@ -25,7 +25,7 @@ use Rattle.meaning.specs.Statements.{store_at, put, plain_assignment}
 use Rattle.meaning.specs.Adjoints.{tangent_of}
 use Rattle.meaning.proofs.Parts.{bound}
 use Rattle.transposition.specs.Tapes.{Tape, word, tape_after, top}
-use Rattle.transposition.specs.Worlds.{World, Local, adjoint_load, adjoint_store, value_store, is_one_step, is_reduction, name_at}
+use Rattle.transposition.specs.Worlds.{World, Local, at_place, adjoint_load, adjoint_store, value_store, is_one_step, is_reduction, name_at}
 use Rattle.transposition.specs.Reads.{place_tree}
 use Rattle.transposition.specs.Spread.{occurrences, increments, with_sign}
 use Rattle.transposition.specs.Back.{after_pop, adjoint_tree, adjoint_move, value_restoration, plain_back}
@@ -183,7 +183,7 @@ pub adjoint_got : (w : World) (u : Use) (s : Cells) (vs bs : List ℕ) (t : Tape
     → (w.site.accessed p.name ≡ true → HasTouch Write q ts ⊎ HasTouch Update q ts) → is_reduction (w.choice p.name) ≡ false
     → Got w ts (flat w.shared vs bs) (play (adjoint_tree w p (local w.shared t vs bs)) (flat w.shared vs bs)) (slice_index bs q) silence
 adjoint_got w u s vs bs t ts h p q n k covered off =
-    got_bind w ts c (place_tree p w l) (adjoint_load w l) q (slice_index bs q) (place_got w u s vs bs t ts h p q n k)
+    got_bind w ts c (place_tree p w l) (at_place (done 0) (adjoint_load w l)) (Some q) (slice_index bs q) (place_got w u s vs bs t ts h p q n k)
     (rw (adjoint_at_played w t q vs bs (room w u s vs bs h)) (record { out = refl; cells = refl; cover = λ i. by_test (nat_lt q w.shared) refl }))
   where
     c : List ℕ
@@ -217,8 +217,8 @@ moved_ran w u s vs bs t ts h p q n k covered off = record {
   ops = (play (adjoint_tree w p l) c).ops ++ ((play (place_tree p w l) c).ops ++ making w.shared q (Store (w.shared + q) 0));
   cover = cover_both w ts _ _ (one.cover (silent ts)) (cover_both w ts _ _ (two.cover (silent ts)) (by_test (nat_lt q w.shared) refl));
   ran = λ f.
-      got_then w ts silence (adjoint_tree w p l) (λ a. and_then (place_tree p w l) (λ j. and_then (adjoint_store w j 0 l) (f a))) c (slice_index bs q) one
-      ∙ (ap (before (play (adjoint_tree w p l) c).ops) (got_then w ts silence (place_tree p w l) (λ j. and_then (adjoint_store w j 0 l) (f (slice_index bs q))) c q two
+      got_then w ts silence (adjoint_tree w p l) (λ a. and_then (place_tree p w l) (λ o. and_then (at_place (done l) (λ j. adjoint_store w j 0 l) o) (f a))) c (slice_index bs q) one
+      ∙ (ap (before (play (adjoint_tree w p l) c).ops) (got_then w ts silence (place_tree p w l) (λ o. and_then (at_place (done l) (λ j. adjoint_store w j 0 l) o) (f (slice_index bs q))) c (Some q) two
       ∙ ap (before (play (place_tree p w l) c).ops) (bind (adjoint_store w q 0 l) (f (slice_index bs q)) c ∙ (rw (set_adjoint_played w t q 0 vs bs (room w u s vs bs h)) refl)))
       ∙ (ap (before (play (adjoint_tree w p l) c).ops) (appended (play (f (slice_index bs q) (local w.shared t vs (slice_set bs q 0))) (flat w.shared vs (slice_set bs q 0))) (play (place_tree p w l) c).ops (making w.shared q (Store (w.shared + q) 0)))
       ∙ appended (play (f (slice_index bs q) (local w.shared t vs (slice_set bs q 0))) (flat w.shared vs (slice_set bs q 0))) (play (adjoint_tree w p l) c).ops ((play (place_tree p w l) c).ops ++ making w.shared q (Store (w.shared + q) 0))));
@@ -233,7 +233,7 @@ moved_ran w u s vs bs t ts h p q n k covered off = record {
     one : Got w ts c (play (adjoint_tree w p l) c) (slice_index bs q) silence
     one = adjoint_got w u s vs bs t ts h p q n k (λ e. inl (covered e)) off
 
-    two : Got w ts c (play (place_tree p w l) c) q silence
+    two : Got w ts c (play (place_tree p w l) c) (Some q) silence
     two = place_got w u s vs bs t ts h p q n k
 
     named : name_at w.site.keys q ≡ p.name
@@ -279,10 +279,10 @@ restored_ran w u s x vs bs t ts fit p q sound k covered l wide long = by_push (w
         by_test false f = tt
 
     by_push : (b : Bool) → w.site.pushed p.name ≡ b
-        → Restored w u ts (play (cond b (and_then (place_tree p w (local w.shared (cond b tape t) vs bs)) (λ q. value_store w q (top (cond b tape t)) (after_pop (local w.shared (cond b tape t) vs bs)))) (done (local w.shared (cond b tape t) vs bs))) c) t s bs
+        → Restored w u ts (play (cond b (and_then (place_tree p w (local w.shared (cond b tape t) vs bs)) (at_place (done (after_pop (local w.shared (cond b tape t) vs bs))) (λ q. value_store w q (top (cond b tape t)) (after_pop (local w.shared (cond b tape t) vs bs))))) (done (local w.shared (cond b tape t) vs bs))) c) t s bs
     by_push true e =
-        let one : Got w ts c (play (place_tree p w (local w.shared tape vs bs)) c) q silence = place_got w (without p.name u) s vs bs tape ts sc p q (needs_all_without u p.name p.subscripts (sound.undone e) sound.free) k in
-        rw (got_then w ts silence (place_tree p w (local w.shared tape vs bs)) (λ q. value_store w q old (after_pop (local w.shared tape vs bs))) c q one)
+        let one : Got w ts c (play (place_tree p w (local w.shared tape vs bs)) c) (Some q) silence = place_got w (without p.name u) s vs bs tape ts sc p q (needs_all_without u p.name p.subscripts (sound.undone e) sound.free) k in
+        rw (got_then w ts silence (place_tree p w (local w.shared tape vs bs)) (at_place (done (after_pop (local w.shared tape vs bs))) (λ q. value_store w q old (after_pop (local w.shared tape vs bs)))) c (Some q) one)
         (rw (set_value_played w t q old vs bs (room w (without p.name u) s vs bs sc)) (record {
           vs1 = slice_set vs q old;
           out = refl;

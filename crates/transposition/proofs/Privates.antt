@@ -13,14 +13,13 @@ use Rattle.meaning.specs.Expressions.{content}
 use Rattle.meaning.specs.Statements.{set_at, with_all_unset, content_at, private_words}
 use Rattle.meaning.specs.Adjoints.{tangent_of}
 use Rattle.transposition.specs.Tapes.{Tape, word, tape_after}
-use Rattle.transposition.specs.Worlds.{World, with_value, with_adjoint, name_at}
-use Rattle.transposition.specs.Reads.{place_or_zero}
+use Rattle.transposition.specs.Worlds.{World, with_own_value, with_own_adjoint, name_at}
 use Rattle.transposition.specs.Back.{after_private_pops, with_clear_privates}
 use Rattle.transposition.specs.Law.{Use, local, tangents}
 use Rattle.transposition.specs.Sound.{AllOwn}
 use Rattle.meaning.specs.Sites.{with_tangent}
 use Rattle.transposition.proofs.Plain.{word_plain}
-use Rattle.transposition.proofs.Split.{set_own, cells_kept}
+use Rattle.transposition.proofs.Split.{own_value_set, own_adjoint_set, cells_kept}
 use Rattle.transposition.proofs.Keys.{Stands, stands}
 use Rattle.transposition.proofs.Places.{content_set_same, content_set_other, tangent_here}
 
@@ -103,8 +102,8 @@ cleared w (x ∷ xs) t vs bs h =
     let q = h.0.q in
     let st = stands w.site.keys x [] q h.0.place in
     let k = cleared w xs t vs (slice_set bs q 0) h.1 in
-    let first : with_adjoint w (place_or_zero (place_of w.site x [])) 0 (local w.shared t vs bs) ≡ local w.shared t vs (slice_set bs q 0) =
-    ap (λ (o : Option ℕ). with_adjoint w (place_or_zero o) 0 (local w.shared t vs bs)) h.0.place ∙ ap (λ (l : List ℕ). record { tape = t; values = drop w.shared vs; adjoints = l }) (set_own w.shared q 0 bs h.0.own) in
+    let first : with_own_adjoint w (place_of w.site x []) 0 (local w.shared t vs bs) ≡ local w.shared t vs (slice_set bs q 0) =
+    own_adjoint_set w (place_of w.site x []) q 0 t vs bs h.0.place h.0.own in
     record {
       bs1 = k.bs1;
       out = ap (with_clear_privates w xs) first ∙ k.out;
@@ -157,8 +156,8 @@ refilled w tree (x ∷ xs) s t vs bs h = by_test (assigns_in x tree && w.site.pu
     by_test : (b : Bool) → (assigns_in x tree && w.site.pushed x) ≡ b → Refilled w tree xs s t vs bs → ((n : ℕ) → Refilled w tree xs s (word n t) vs bs) → Refilled w tree (x ∷ xs) s t vs bs
     by_test true e _ more =
         let k = more old in
-        let set-one : with_value w (place_or_zero (place_of w.site x [])) old (local w.shared t k.vs1 bs) ≡ local w.shared t (slice_set k.vs1 q old) bs =
-        ap (λ (o : Option ℕ). with_value w (place_or_zero o) old (local w.shared t k.vs1 bs)) h.0.place ∙ ap (λ (l : List ℕ). record { tape = t; values = l; adjoints = drop w.shared bs }) (set_own w.shared q old k.vs1 h.0.own) in
+        let set-one : with_own_value w (place_of w.site x []) old (local w.shared t k.vs1 bs) ≡ local w.shared t (slice_set k.vs1 q old) bs =
+        own_value_set w (place_of w.site x []) q old t k.vs1 bs h.0.place h.0.own in
         record {
           vs1 = slice_set k.vs1 q old;
           out = rw e (rw k.out set-one);

@@ -17,7 +17,7 @@ use Rattle.meaning.specs.Sites.{Cells, Site, place_of, kind_of}
 use Rattle.meaning.specs.Expressions.{content, read_cell, read_place, read, value_of, values_of, holds}
 use Rattle.transposition.specs.Tapes.{Tape}
 use Rattle.transposition.specs.Worlds.{World, value_load, name_at}
-use Rattle.transposition.specs.Reads.{value_from, value_or_zero, place_or_zero, read_at, value_tree, values_tree, holds_tree, place_tree}
+use Rattle.transposition.specs.Reads.{value_from, value_or_zero, read_at, value_tree, values_tree, holds_tree, place_tree}
 use Rattle.transposition.specs.Law.{Use, flat, local, Like, Fit, HasTouch, Cover, CoverAt, CoverAll}
 use Rattle.meaning.specs.Fitting.{HasKind}
 use Rattle.transposition.specs.Needs.{Needs, NeedsAll, NeedsCondition}
@@ -107,7 +107,7 @@ abbrev pub seen : Bool → Site → ℕ → Value → Traced Cause Value
 seen b site p v = if b then after (touched p Read) (pure v) else pure v
 
 read_got : (w : World) (u : Use) (s : Cells) (vs bs : List ℕ) (t : Tape) (ts : Log) → Scene w u s vs bs → (x : List ℕ) → u.needed x ≡ true → (ks : List ℤ) (o : Option ℕ) → place_of w.site x ks ≡ o
-    → Gets w ts (flat w.shared vs bs) flat_value (play (read_at w (local w.shared t vs bs) x (place_or_zero o)) (flat w.shared vs bs)) (read_place w.site s x o).log (read_place w.site s x o).out
+    → Gets w ts (flat w.shared vs bs) flat_value (play (read_at w (local w.shared t vs bs) x o) (flat w.shared vs bs)) (read_place w.site s x o).log (read_place w.site s x o).out
 read_got w u s vs bs t ts h x n ks None e = tt
 read_got w u s vs bs t ts h x n ks (Some p) e = by_content (content s p) refl
   where
@@ -118,7 +118,7 @@ read_got w u s vs bs t ts h x n ks (Some p) e = by_content (content s p) refl
     st = stands w.site.keys x ks p e
 
     tree : Tree Value
-    tree = read_at w (local w.shared t vs bs) x p
+    tree = read_at w (local w.shared t vs bs) x (Some p)
 
     went : play tree c ≡ played (value_from (kind_of w.site x) (slice_index vs p)) c (reading w.shared p p ++ [])
     went = bind (value_load w (local w.shared t vs bs) p) (λ n. done (value_from (kind_of w.site x) n)) c ∙ (rw (value_at_played w t p vs bs (room w u s vs bs h)) refl)
@@ -143,7 +143,7 @@ mutual
       → Gets w ts (flat w.shared vs bs) flat_value (play (value_tree e w (local w.shared t vs bs)) (flat w.shared vs bs)) (value_of e w.site s).log (value_of e w.site s).out
   value_got w u s vs bs t ts h (literal n k) q = gets_found w ts (flat w.shared vs bs) (literal_value n k) (literal_value n k) (literal_maps n k)
   value_got w u s vs bs t ts h (get x ss) q =
-      gets_bind w ts (flat w.shared vs bs) flat_values flat_value (values_of ss w.site s) (read w.site s x) (values_tree ss w (local w.shared t vs bs)) (λ vals. read_at w (local w.shared t vs bs) x (place_or_zero (place_of w.site x (whole_numbers vals))))
+      gets_bind w ts (flat w.shared vs bs) flat_values flat_value (values_of ss w.site s) (read w.site s x) (values_tree ss w (local w.shared t vs bs)) (λ vals. read_at w (local w.shared t vs bs) x (place_of w.site x (whole_numbers vals)))
       (values_got w u s vs bs t ts h ss q.1)
       (λ vals f. rw (wholes_flat vals) (read_got w u s vs bs t ts h x q.0 (whole_numbers vals) (place_of w.site x (whole_numbers vals)) refl))
   value_got w u s vs bs t ts h (minus a) q =
@@ -214,11 +214,11 @@ pub record Placed (w : World) (s : Cells) (ts : Log) (d : Designator) (p : ℕ) 
   pub place : place_of w.site d.name (whole_numbers vals) ≡ Some p
 
 pub place_got : (w : World) (u : Use) (s : Cells) (vs bs : List ℕ) (t : Tape) (ts : Log) → Scene w u s vs bs → (d : Designator) (p : ℕ) → NeedsAll u d.subscripts → Placed w s ts d p
-    → Got w ts (flat w.shared vs bs) (play (place_tree d w (local w.shared t vs bs)) (flat w.shared vs bs)) p silence
+    → Got w ts (flat w.shared vs bs) (play (place_tree d w (local w.shared t vs bs)) (flat w.shared vs bs)) (Some p) silence
 place_got w u s vs bs t ts h d p q k =
     let c = flat w.shared vs bs in
     let g : Got w ts c (play (values_tree d.subscripts w (local w.shared t vs bs)) c) (flat_values k.vals) (values_of d.subscripts w.site s).log =
     gets_ok w ts c flat_values _ _ (values_of d.subscripts w.site s).out k.vals k.out (values_got w u s vs bs t ts h d.subscripts q) in
-    let e : place_or_zero (place_of w.site d.name (whole_numbers (flat_values k.vals))) ≡ p = rw (wholes_flat k.vals) (ap place_or_zero k.place) in
-    got_bind w ts c (values_tree d.subscripts w (local w.shared t vs bs)) (λ xs. done (place_or_zero (place_of w.site d.name (whole_numbers xs)))) (flat_values k.vals) p (got_told w ts c _ _ _ k.told g)
-    (rw e (got_done w ts c p))
+    let e : place_of w.site d.name (whole_numbers (flat_values k.vals)) ≡ Some p = rw (wholes_flat k.vals) k.place in
+    got_bind w ts c (values_tree d.subscripts w (local w.shared t vs bs)) (λ xs. done (place_of w.site d.name (whole_numbers xs))) (flat_values k.vals) (Some p) (got_told w ts c _ _ _ k.told g)
+    (rw e (got_done w ts c (Some p)))

@@ -1,5 +1,5 @@
 -- Reaching a place: a cell, or a word of the iteration's own.
-use Rattle.std.proofs.Common.{◌≡◌, ℕ, zero, suc, ◌+◌, ◌-◌, ◌<◌, ◌≤◌, List, [], ◌∷◌, ◌++◌, refl, ap, sym, ◌∙◌, arith, length, take, drop, Bool, true, false, cond}
+use Rattle.std.proofs.Common.{◌≡◌, ℕ, zero, suc, ◌+◌, ◌-◌, ◌<◌, ◌≤◌, List, [], ◌∷◌, ◌++◌, refl, ap, sym, ◌∙◌, arith, length, take, drop, Bool, true, false, cond, Option, Some}
 use Rattle.std.specs.Prelude.{slice_index, slice_set, nat_lt}
 use Rattle.std.proofs.lemmas.Bool.Decides.{nat_tests}
 use Rattle.std.proofs.lemmas.List.{get_or_append_left, get_or-take, get_or-drop, get_or-append-add, set-append_left, set-append_right, drop-set-lt, drop-set-add, take-set-le, length-take-le}
@@ -9,7 +9,7 @@ use Rattle.operations.specs.declared.op.Op.{Op}
 use Rattle.operations.specs.declared.op.Op.TheVariants.{Load, Store, Bump, Add}
 use Rattle.operations.specs.Tree.{done, loads, does, Played, play}
 use Rattle.transposition.specs.Tapes.{Tape}
-use Rattle.transposition.specs.Worlds.{World, value_load, adjoint_load, with_value, with_adjoint, value_store, adjoint_store, addition, is_one_step, adjoint_increment, value_increment}
+use Rattle.transposition.specs.Worlds.{World, with_own_value, with_own_adjoint, value_load, adjoint_load, with_value, with_adjoint, value_store, adjoint_store, addition, is_one_step, adjoint_increment, value_increment}
 use Rattle.transposition.specs.Law.{flat, local}
 
 pub less : (p n : ℕ) → nat_lt p n ≡ true → p < n
@@ -153,3 +153,15 @@ grow_value_played w one t p a vs bs h = by_test (nat_lt p w.shared) refl
         ∙ (rw (value_cell w.shared p vs bs h (less p w.shared e), set_value_cell w.shared p x vs bs h (less p w.shared e), own_kept w.shared p x vs (less p w.shared e)) refl)
     by_test false e =
         rw (own_word w.shared p vs (not_less p w.shared e)) (rw (← set_own w.shared p x vs (not_less p w.shared e), ← cells_kept w.shared p x vs (not_less p w.shared e)) refl)
+
+-- ---- words of places of the iteration's own
+
+pub own_value_set : (w : World) (o : Option ℕ) (q x : ℕ) (t : Tape) (vs bs : List ℕ) → o ≡ Some q → w.shared ≤ q → with_own_value w o x (local w.shared t vs bs) ≡ local w.shared t (slice_set vs q x) bs
+own_value_set w o q x t vs bs e h =
+    ap (λ (o : Option ℕ). with_own_value w o x (local w.shared t vs bs)) e
+    ∙ (rw (is_not_less q w.shared h) (ap (λ (l : List ℕ). record { tape = t; values = l; adjoints = drop w.shared bs }) (set_own w.shared q x vs h)))
+
+pub own_adjoint_set : (w : World) (o : Option ℕ) (q x : ℕ) (t : Tape) (vs bs : List ℕ) → o ≡ Some q → w.shared ≤ q → with_own_adjoint w o x (local w.shared t vs bs) ≡ local w.shared t vs (slice_set bs q x)
+own_adjoint_set w o q x t vs bs e h =
+    ap (λ (o : Option ℕ). with_own_adjoint w o x (local w.shared t vs bs)) e
+    ∙ (rw (is_not_less q w.shared h) (ap (λ (l : List ℕ). record { tape = t; values = drop w.shared vs; adjoints = l }) (set_own w.shared q x bs h)))

@@ -1,5 +1,5 @@
 -- What the increments of a list of occurrences do: the pairing grows by the sum of what they are worth.
-use Rattle.std.proofs.Common.{◌≡◌, ℕ, ◌+◌, ◌*◌, List, [], ◌∷◌, ◌++◌, refl, ap, sym, ◌∙◌, subst, arith, length, map, Bool, true, false, cond, Ok, inl, inr}
+use Rattle.std.proofs.Common.{◌≡◌, ℕ, ◌+◌, ◌*◌, List, [], ◌∷◌, ◌++◌, refl, ap, sym, ◌∙◌, subst, arith, length, map, Bool, true, false, cond, Some, Ok, inl, inr}
 use Rattle.std.specs.Prelude.{slice_index, slice_set, nat_lt}
 use Rattle.std.proofs.lemmas.List.{length-set, length-map}
 use Rattle.ring_core.specs.Ring.{ring_add, ring_mul}
@@ -19,7 +19,7 @@ use Rattle.meaning.specs.Sites.{Cells}
 use Rattle.meaning.specs.Expressions.{content, value_of, holds}
 use Rattle.meaning.specs.Adjoints.{tangent_of}
 use Rattle.transposition.specs.Tapes.{Tape}
-use Rattle.transposition.specs.Worlds.{World, Local, name_at, is_one_step, adjoint_increment}
+use Rattle.transposition.specs.Worlds.{World, Local, at_place, name_at, is_one_step, adjoint_increment}
 use Rattle.transposition.specs.Reads.{value_tree, holds_tree, place_tree}
 use Rattle.transposition.specs.Spread.{Factor, operand, either, Occurrence, factor_tree, product_tree, with_sign, one_increment, increments}
 use Rattle.transposition.specs.Law.{Use, flat, local, Fit, tangents, HasTouch, HasDifferentiatedRead, CoverAll, AreWords}
@@ -130,8 +130,8 @@ scene_with w u s vs bs bs2 h l = record { fit = h.fit; like = h.like; wide = h.w
 one_spreads : (w : World) (u : Use) (s : Cells) (vs bs : List ℕ) (t : Tape) (ts : Log) (a : ℕ) → Scene w u s vs bs → (o : Occurrence) (z : ℕ) → NeedsOne u o → Worth w s ts a o z → AreWords bs
     → Spreads w u s ts (play (one_increment w a o (local w.shared t vs bs)) (flat w.shared vs bs)) t vs bs z
 one_spreads w u s vs bs t ts a h o z q k small =
-    rw (got_then w ts silence (product_tree w l o.factors a) (λ x. and_then (place_tree o.place w l) (λ p. adjoint_increment w (w.choice o.place.name) p (with_sign o.negative x) l)) c k.n one)
-    (rw (got_then w ts silence (place_tree o.place w l) (λ p. adjoint_increment w (w.choice o.place.name) p x l) c k.p two)
+    rw (got_then w ts silence (product_tree w l o.factors a) (λ x. and_then (place_tree o.place w l) (at_place (done l) (λ p. adjoint_increment w (w.choice o.place.name) p (with_sign o.negative x) l))) c k.n one)
+    (rw (got_then w ts silence (place_tree o.place w l) (at_place (done l) (λ p. adjoint_increment w (w.choice o.place.name) p x l)) c (Some k.p) two)
     (rw (grow_adjoint_played w (w.choice o.place.name) t k.p x vs bs (room w u s vs bs h)) (record {
       bs2 = slice_set bs k.p (ring_add (slice_index bs k.p) x);
       out = refl;
@@ -157,7 +157,7 @@ one_spreads w u s vs bs t ts a h o z q k small =
     one : Got w ts c (play (product_tree w l o.factors a) c) k.n silence
     one = product_got w u s vs bs t ts h o.factors a k.n q.factors k.product
 
-    two : Got w ts c (play (place_tree o.place w l) c) k.p silence
+    two : Got w ts c (play (place_tree o.place w l) c) (Some k.p) silence
     two = place_got w u s vs bs t ts h o.place k.p q.subscripts k.placed
 
     named : name_at w.site.keys k.p ≡ o.place.name

@@ -16,7 +16,7 @@ use Rattle.meaning.specs.declared.value.TrapAt.{TrapAt}
 use Rattle.meaning.specs.declared.value.IterationCount.{IterationCount}
 use Rattle.meaning.specs.Values.{whole_number}
 use Rattle.meaning.specs.Logs.{Log, Traced, pure, lift, after, instance, taken, ◌>>=◌}
-use Rattle.meaning.specs.Sites.{Cells, Site}
+use Rattle.meaning.specs.Sites.{Cells, Site, place_of}
 use Rattle.meaning.specs.Expressions.{content, value_of}
 use Rattle.meaning.specs.Statements.{Run, assignment_by, turns_by, step_value, turns_of, value_at, set_at, set_log_at, turns, choice, in_arm, run_all, run_arms}
 use Rattle.meaning.proofs.Parts.{bound}
@@ -41,10 +41,9 @@ use Rattle.operations.specs.Tree.{Tree, done, and_then, play}
 use Rattle.operations.proofs.Trees.{bind}
 use Rattle.pairing.specs.Pair.{pair}
 use Rattle.transposition.specs.Tapes.{Tape, word, tape_after}
-use Rattle.transposition.specs.Worlds.{Local, with_value}
-use Rattle.transposition.specs.Reads.{place_or_zero}
+use Rattle.transposition.specs.Worlds.{Local}
 use Rattle.transposition.specs.Back.{turns_on, assignment_back, turns_back, one_turn_back, loop_back, back_all, back_arms, with_variable_word as variable_set}
-use Rattle.transposition.proofs.Split.{set_own, cells_kept}
+use Rattle.transposition.proofs.Split.{own_value_set, cells_kept}
 use Rattle.transposition.proofs.Flats.{read_back}
 use Rattle.transposition.proofs.Reading.{cover_both}
 use Rattle.transposition.proofs.Taping.{Wordless, wordless_bind, wordless}
@@ -186,12 +185,6 @@ like_outside w u var first last step v c vs s l p y h n =
     let st = stands w.site.keys var [] v.q v.place in
     l p y (content_set_other s v.q p c (λ e. (let k : true ≡ false = sym n ∙ (ap u.needed (ap (name_at w.site.keys) e ∙ st.named) ∙ v.unneeded) in cc)) ∙ h) (rw n refl)
 
-abbrev local_of : Tape → List ℕ → List ℕ → Local
-local_of t xs bs = record { tape = t; values = xs; adjoints = bs }
-
-locals_same : (n : ℕ) (t : Tape) (xs ys bs : List ℕ) → xs ≡ ys → local_of t xs bs ≡ local_of t ys bs
-locals_same n t xs ys bs e = ap (λ (l : List ℕ). local_of t l bs) e
-
 pub turn_undone : (w : World) (u : Use) (ts : Log) (var : List ℕ) (first last : Expression) (step : Option Expression) (v : SoundVariable w u var first last step) (b : IterationCount) (k : ℕ) (body : World → Local → Tree Local) (t t2 : Tape) (s s2 : Cells)
     → length s ≡ length w.site.keys → (let z : ℤ = value_at b k in
     (content s2 v.q ≡ Some (Index z)) × Undoes (in_turn w var) (scope_with var u) ts (body (in_turn w var)) t t2 (slice_set s v.q (Some (Index z))) s2)
@@ -203,7 +196,7 @@ turn_undone w u ts var first last step v b k body t t2 s s2 size h vs bs l wide 
     let vs1 : List ℕ = slice_set vs v.q x in
     let a = h.1 vs1 bs (variable_like w u var first last step v z vs s2 (let i = st.there in omega arith) h.0 l) (length-set vs v.q x ∙ wide) long small in
     let same-local : variable_set w var b k (local w.shared t2 vs bs) ≡ local w.shared t2 vs1 bs =
-    ap (λ (o : Option ℕ). with_value w (place_or_zero o) x (local w.shared t2 vs bs)) v.place ∙ locals_same w.shared t2 (slice_set (drop w.shared vs) (v.q - w.shared) x) (drop w.shared vs1) (drop w.shared bs) (set_own w.shared v.q x vs v.own) in
+    own_value_set w (place_of w.site var []) v.q x t2 vs bs v.place v.own in
     let same-cells : flat w.shared vs bs ≡ flat w.shared vs1 bs = ap (λ (c : List ℕ). c ++ take w.shared bs) (cells_kept w.shared v.q x vs v.own) in
     rw (same-local, same-cells) (record {
       vs2 = a.vs2;

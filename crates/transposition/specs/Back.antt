@@ -1,6 +1,6 @@
 -- The reverse part of statements, as trees of operations.
-use Rattle.std.specs.Prelude.{ℕ, zero, suc, ◌+◌, ◌/◌, ◌%◌, Bool, false, ◌&&◌, ◌||◌, cond, if◌then◌else◌, List, [], ◌∷◌, ◌++◌, Option, Some, None, ◌+ℤ◌, ◌-ℤ◌, int_div}
-use Rattle.std.specs.Int.{w64, cast_signed, cast_unsigned}
+use Rattle.std.specs.Prelude.{ℕ, zero, suc, ◌+◌, ◌/◌, ◌%◌, Bool, false, ◌&&◌, ◌||◌, cond, nat_lt, if◌then◌else◌, List, [], ◌∷◌, ◌++◌, Option, Some, None, ◌+ℤ◌, ◌-ℤ◌, int_div}
+use Rattle.std.specs.Int.{w64, cast_unsigned}
 use Rattle.ring_core.specs.Ring.{ring_add, ring_sub}
 use Rattle.fl_ast.specs.declared.directive.Directive.{Directive}
 use Rattle.fl_ast.specs.Tree.{Expression, Designator, Statement, assignment, branch, loop, Statements, no_statements, statement, Arms, no_arms, arm}
@@ -17,8 +17,8 @@ use Rattle.meaning.specs.Values.{as_dual}
 use Rattle.meaning.specs.Sites.{place_of}
 use Rattle.meaning.specs.Statements.{private_names, value_at, Heads, iterations}
 use Rattle.transposition.specs.Tapes.{Tape, Tapes, top, rest, top_tapes, tape_at}
-use Rattle.transposition.specs.Worlds.{World, Local, is_reduction, adjoint_load, value_store, adjoint_store, value_increment, with_value, with_adjoint, in_turn, in_iteration}
-use Rattle.transposition.specs.Reads.{value_tree, place_tree, place_or_zero}
+use Rattle.transposition.specs.Worlds.{World, Local, is_reduction, at_place, adjoint_load, value_store, adjoint_store, value_increment, with_own_value, with_own_adjoint, in_turn, in_iteration}
+use Rattle.transposition.specs.Reads.{number_in, value_tree, place_tree}
 use Rattle.transposition.specs.Spread.{Occurrence, occurrences, increments}
 
 abbrev pub after_pop : Local → Local
@@ -28,15 +28,15 @@ after_pop l = record l { tape = rest l.tape }
 
 -- `formad_t = x_b`
 abbrev pub adjoint_tree : World → Designator → Local → Tree ℕ
-adjoint_tree w p l = place_tree p w l giving adjoint_load w l
+adjoint_tree w p l = place_tree p w l giving at_place (done 0) (adjoint_load w l)
 
 -- `formad_t = x_b`, `x_b = 0_8`
 abbrev pub adjoint_move : World → Designator → Local → (ℕ → Local → Tree Local) → Tree Local
-adjoint_move w p l k = adjoint_tree w p l giving (λ t. place_tree p w l giving (λ q. adjoint_store w q 0 l giving k t))
+adjoint_move w p l k = adjoint_tree w p l giving (λ t. place_tree p w l giving (λ o. at_place (done l) (λ q. adjoint_store w q 0 l) o giving k t))
 
 -- the old value, where it was pushed
 abbrev pub value_restoration : World → Designator → Local → Tree Local
-value_restoration w p l = cond (w.site.pushed p.name) (place_tree p w l giving (λ q. value_store w q (top l.tape) (after_pop l))) (done l)
+value_restoration w p l = cond (w.site.pushed p.name) (place_tree p w l giving at_place (done (after_pop l)) (λ q. value_store w q (top l.tape) (after_pop l))) (done l)
 
 abbrev pub plain_back : World → Designator → Expression → Local → Tree Local
 plain_back w p e l =
@@ -50,7 +50,7 @@ rest_tree w (r ∷ rs) a l = value_tree r.1 w l giving (λ v. rest_tree w rs (co
 -- an increment undone, where its target's value is needed
 abbrev pub increment_reversal : World → Bool → Designator → List Signed → Local → Tree Local
 increment_reversal w atomic p rs l =
-    cond (w.site.pushed p.name) (rest_tree w rs 0 l giving (λ a. place_tree p w l giving (λ q. value_increment w (atomic || w.site.pluses p.name) q a l))) (done l)
+    cond (w.site.pushed p.name) (rest_tree w rs 0 l giving (λ a. place_tree p w l giving at_place (done l) (λ q. value_increment w (atomic || w.site.pluses p.name) q a l))) (done l)
 
 abbrev pub rest_occurrences : (List ℕ → Bool) → List Signed → List Occurrence
 rest_occurrences on [] = []
@@ -69,9 +69,9 @@ assignment_back w atomic p e (Some rs) l = increment_back w atomic p rs l
 -- the bounds of a loop, from the three words on top, the step's first
 abbrev pub turns_on : Tape → IterationCount
 turns_on t =
-    let first = cast_signed w64 (top (rest (rest t))) in
-    let last = cast_signed w64 (top (rest t)) in
-    let step = cast_signed w64 (top t) in
+    let first = number_in (top (rest (rest t))) in
+    let last = number_in (top (rest t)) in
+    let step = number_in (top t) in
     record { first = first; last = last; step = step; count = clipped (int_div ((last -ℤ first) +ℤ step) step) }
 
 -- the tape below the words of these loops' bounds
@@ -94,7 +94,7 @@ loop_variables directive var tree = var ∷ variables_of (further_head directive
 
 -- a loop's variable in a turn
 abbrev pub with_variable_word : World → List ℕ → IterationCount → ℕ → Local → Local
-with_variable_word w var t k l = with_value w (place_or_zero (place_of w.site var [])) (cast_unsigned w64 (value_at t k)) l
+with_variable_word w var t k l = with_own_value w (place_of w.site var []) (cast_unsigned w64 (value_at t k)) l
 
 -- the loops' variables in iteration k
 abbrev pub with_variable_words : World → Heads → ℕ → Local → Local
@@ -123,20 +123,24 @@ abbrev pub after_private_pops : World → Statements → List (List ℕ) → Loc
 after_private_pops w body [] l = l
 after_private_pops w body (x ∷ xs) l =
     let m = after_private_pops w body xs l in
-    cond (assigns_in x body && w.site.pushed x) (with_value w (place_or_zero (place_of w.site x [])) (top m.tape) (after_pop m)) m
+    cond (assigns_in x body && w.site.pushed x) (with_own_value w (place_of w.site x []) (top m.tape) (after_pop m)) m
 
 abbrev pub with_clear_privates : World → List (List ℕ) → Local → Local
 with_clear_privates w [] l = l
-with_clear_privates w (x ∷ xs) l = with_clear_privates w xs (with_adjoint w (place_or_zero (place_of w.site x [])) 0 l)
+with_clear_privates w (x ∷ xs) l = with_clear_privates w xs (with_own_adjoint w (place_of w.site x []) 0 l)
 
 -- the additions to a Reduction's adjoint, made once at the end
 abbrev pub with_collection : ℕ → Tree Local → Tree Local
 with_collection q t = collect q t 0 giving (λ r. does (Add q r.1) (done r.0))
 
+-- those at a place that has a cell
+abbrev pub with_collection_at : World → Option ℕ → Tree Local → Tree Local
+with_collection_at w o t = at_place t (λ q. cond (nat_lt q w.shared) (with_collection (w.shared + q) t) t) o
+
 abbrev pub with_collections : World → List (List ℕ) → Tree Local → Tree Local
 with_collections w [] t = t
 with_collections w (x ∷ xs) t =
-    with_collections w xs (cond (w.active x && is_reduction (w.choice x)) (with_collection (w.shared + place_or_zero (place_of w.site x [])) t) t)
+    with_collections w xs (cond (w.active x && is_reduction (w.choice x)) (with_collection_at w (place_of w.site x []) t) t)
 
 -- an iteration, from what the loop's entry has, with its tape
 abbrev pub iteration_local : World → Directive → List ℕ → Statements → Heads → Tapes → Local → ℕ → Local

@@ -9,7 +9,7 @@ use Rattle.fl_ast.specs.declared.kind.Fun.TheVariants as fun
 use Rattle.fl_ast.specs.Tree.{Expression, literal, get, minus, binary, power, call, Expressions, no_expressions, expression, Designator, Condition, relation}
 use Rattle.operations.specs.Tree.{Tree, done, ◌giving◌}
 use Rattle.meaning.specs.Values.{as_dual}
-use Rattle.transposition.specs.Worlds.{World, Local, adjoint_increment}
+use Rattle.transposition.specs.Worlds.{World, Local, at_place, adjoint_increment}
 use Rattle.transposition.specs.Reads.{value_tree, holds_tree, place_tree}
 
 -- a factor: an expression of the primal, or a `merge` of two numbers
@@ -76,7 +76,7 @@ with_sign false a = a
 -- one increment, t being the adjoint that was moved
 abbrev pub one_increment : World → ℕ → Occurrence → Local → Tree Local
 one_increment w t o l =
-    product_tree w l o.factors t giving (λ x. place_tree o.place w l giving (λ p. adjoint_increment w (w.choice o.place.name) p (with_sign o.negative x) l))
+    product_tree w l o.factors t giving (λ x. place_tree o.place w l giving at_place (done l) (λ p. adjoint_increment w (w.choice o.place.name) p (with_sign o.negative x) l))
 
 abbrev pub increments : World → ℕ → List Occurrence → Local → Tree Local
 increments w t [] l = done l

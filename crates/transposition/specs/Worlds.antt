@@ -28,6 +28,11 @@ pub record Local : Type 0 where
   pub values : List ℕ
   pub adjoints : List ℕ
 
+-- what is made at a place; where there is none, nothing is
+abbrev pub at_place : {A : Type 0} → A → (ℕ → A) → Option ℕ → A
+at_place a f None = a
+at_place a f (Some p) = f p
+
 abbrev pub value_load : World → Local → ℕ → Tree ℕ
 value_load w l p = cond (nat_lt p w.shared) (loads p (λ x. done x)) (done (slice_index l.values (p - w.shared)))
 
@@ -39,6 +44,13 @@ with_value w p x l = record l { values = slice_set l.values (p - w.shared) x }
 
 abbrev pub with_adjoint : World → ℕ → ℕ → Local → Local
 with_adjoint w p x l = record l { adjoints = slice_set l.adjoints (p - w.shared) x }
+
+-- the word at a place of the iteration's own; at another place nothing is set
+abbrev pub with_own_value : World → Option ℕ → ℕ → Local → Local
+with_own_value w o x l = at_place l (λ p. cond (nat_lt p w.shared) l (with_value w p x l)) o
+
+abbrev pub with_own_adjoint : World → Option ℕ → ℕ → Local → Local
+with_own_adjoint w o x l = at_place l (λ p. cond (nat_lt p w.shared) l (with_adjoint w p x l)) o
 
 abbrev pub value_store : World → ℕ → ℕ → Local → Tree Local
 value_store w p x l = cond (nat_lt p w.shared) (does (Store p x) (done l)) (done (with_value w p x l))
