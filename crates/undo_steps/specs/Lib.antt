@@ -1,0 +1,2 @@
+pub mod UndoSteps
+pub mod UndosStand
