@@ -3,4 +3,4 @@
 
 mod undo;
 
-pub use undo::{Factor, Growth, Undo, UndoAround, UndoArm, UndoStep, Variables};
+pub use undo::{Factor, Growth, Undo, UndoArm, UndoAround, UndoStep, Variables};

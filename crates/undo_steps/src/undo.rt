@@ -9,7 +9,11 @@ pub enum Factor {
     /// An expression of the program.
     Operand(RingCode),
     /// One number where the test holds, else the other.
-    Either { one: u64, other: u64, test: TestCode },
+    Either {
+        one: u64,
+        other: u64,
+        test: TestCode,
+    },
 }
 
 /// The increment of one adjoint, for one occurrence of its name on a right side.

@@ -1,0 +1,6 @@
+//! Why a reverse sweep does what undoes a program: its machine comes to what the trees of operations play.
+#![tactic(auto)]
+
+mod laws;
+
+pub use laws::{iteration_is_played, machine_is_transposed, program_is_named, reverse_is_played};
