@@ -1,28 +1,27 @@
 -- Assignments are undone as the trees for them play.
-use Rattle.std.proofs.Common.{◌≡◌, ℕ, List, [], ◌∷◌, map, refl, ap, sym, ◌∙◌, subst, Bool, true, false, ◌&&◌, ◌||◌, cond, Option, Some, None}
+use Rattle.std.proofs.Common.{◌≡◌, ℕ, List, [], ◌∷◌, map, refl, ap, sym, subst, Bool, true, false, cond, Option, Some, None}
 use Rattle.std.specs.Prelude.{if◌then◌else◌}
 use Rattle.std.specs.List.{list_all}
 use Rattle.std.proofs.lemmas.Bool.{and_parts}
-use Rattle.ring_core.specs.Ring.{ring_add, ring_sub, ring_mul, ring_neg}
-use Rattle.fl_types.specs.declared.choice.Choice.{Choice}
+use Rattle.ring_core.specs.Ring.{ring_add, ring_sub, ring_mul}
 use Rattle.fl_ast.specs.Tree.{Expression, Designator}
 use Rattle.fl_types.specs.Increment.{Signed, increment_terms}
-use Rattle.operations.specs.Tree.{Tree, done, ◌giving◌}
+use Rattle.operations.specs.Tree.{done, ◌giving◌}
 use Rattle.meaning.specs.Values.{as_dual}
 use Rattle.resolved.specs.SlotTables.{Names}
 use Rattle.transposition.specs.Tapes.{top}
 use Rattle.transposition.specs.Worlds.{World, Local, at_place, adjoint_load, adjoint_store, value_store, value_increment, adjoint_increment}
 use Rattle.transposition.specs.Reads.{value_tree, holds_tree, place_tree}
 use Rattle.transposition.specs.Spread.{Factor, Occurrence, occurrences, factor_tree, product_tree, with_sign, one_increment, increments}
-use Rattle.transposition.specs.Back.{after_pop, adjoint_tree, adjoint_move, value_restoration, plain_back, rest_tree, increment_reversal, rest_occurrences, increment_back, assignment_back}
+use Rattle.transposition.specs.Back.{after_pop, adjoint_tree, adjoint_move, value_restoration, rest_tree, increment_reversal, rest_occurrences, assignment_back}
 use Rattle.sweep_trees.specs.Split.{SpotTree}
-use Rattle.sweep_trees.specs.Standing.{ring_back, test_back, is_widened, is_ring_fit, is_test_fit}
+use Rattle.sweep_trees.specs.Standing.{ring_back, test_back, is_widened, is_ring_fit}
 use Rattle.sweep_steps.specs.Steps.{TermTree}
 use Rattle.sweep_steps.specs.StepsStand.{signed_back}
-use Rattle.sweep_evaluation.specs.Machine.{Ran, ran, ◌to◌, spot_place, ring_value, test_value}
+use Rattle.sweep_evaluation.specs.Machine.{spot_place, ring_value, test_value}
 use Rattle.undo_steps.specs.UndoSteps.{FactorTree, operand_factor, either_factor, GrowthTree, UndoStore, undo_plain, undo_increment}
-use Rattle.undo_steps.specs.UndosStand.{unwatched, is_any_kind, SpotUndoes, factor_back, is_factor_fit, GrowthStands, EachGrowthStands, GrowthsStand, PlainStands, TermsStand, ReversalStands, IncrementStands, UndoStoreStands}
-use Rattle.reverse_sweep.specs.Reversing.{Stage, Reversing, reversing, popped, told, adjoint_loaded, adjoint_stored, value_stored, value_grown, adjoint_grown}
+use Rattle.undo_steps.specs.UndosStand.{unwatched, is_any_kind, SpotUndoes, factor_back, is_factor_fit, GrowthStands, EachGrowthStands, GrowthsStand, ReversalStands, UndoStoreStands}
+use Rattle.reverse_sweep.specs.Reversing.{popped, told, adjoint_loaded, adjoint_stored, value_grown, adjoint_grown}
 use Rattle.reverse_sweep.specs.Machine.{factor_value, product, signed, growth_run, growths_run, target_adjoint, cleared, restored_from, restored, plain_run, rest_sum, reversed_by, spread_run, undo_store_run}
 use Rattle.reverse_law.specs.Reverse.{IsNamed}
 use Rattle.reverse_law.proofs.Evaluating.{Evaluates, eval_done, eval_then, eval_map, IsSame, IsWord}

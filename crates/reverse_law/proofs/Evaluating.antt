@@ -1,20 +1,12 @@
 -- Evaluations of split trees make the loads of the trees that they stand for, and give their numbers.
-use Rattle.std.specs.Prelude.{◌≡◌, ℕ, zero, suc, ◌<◌, ◌+◌, ◌-◌, ℤ, pos, negsuc, Bool, true, false, not, ◌&&◌, ◌||◌, cond, if◌then◌else◌, nat_lt, nat_eq, List, [], ◌∷◌, ◌++◌, length, Option, Some, None, Result, Ok, Err, int_lt, int_le, neg_ℤ, slice_index, refl}
-use Rattle.std.specs.Int.{w64, cast_unsigned, int_pow}
+use Rattle.std.specs.Prelude.{◌≡◌, ℕ, ◌<◌, ◌-◌, ℤ, Bool, true, false, ◌&&◌, cond, if◌then◌else◌, nat_lt, List, [], ◌∷◌, ◌++◌, length, Option, Some, None, Result, Ok, Err, slice_index, refl}
 use Rattle.std.proofs.Common.{ap, sym, subst, ◌∙◌, arith}
 use Rattle.std.proofs.lemmas.Bool.{and_parts}
 use Rattle.std.proofs.lemmas.Bool.Decides.{nat_tests}
 use Rattle.ring_core.specs.declared.index.IndexTrap.{IndexTrap}
-use Rattle.ring_core.specs.declared.ring.Width.{Width}
-use Rattle.ring_core.specs.Index.{exact_index, index_rem}
-use Rattle.ring_core.specs.Ring.{ring_neg, ring_pow, signed_at}
 use Rattle.fl_ast.specs.declared.kind.Kind.{Kind}
 use Rattle.fl_ast.specs.declared.kind.Kind.TheVariants as kind
-use Rattle.fl_ast.specs.declared.kind.BinOp.{BinOp}
-use Rattle.fl_ast.specs.declared.kind.BinOp.TheVariants as op
-use Rattle.fl_ast.specs.declared.kind.RelOp.{RelOp}
 use Rattle.fl_ast.specs.declared.kind.Fun.{Fun}
-use Rattle.fl_ast.specs.declared.kind.Fun.TheVariants.{Max, Min, Abs, Mod}
 use Rattle.fl_ast.specs.Tree.{Expression, call, Expressions, no_expressions, expression}
 use Rattle.fl_types.specs.Kinds.{is_index_kind}
 use Rattle.fl_types.specs.Sharing.{is_ring_kind}
@@ -24,20 +16,16 @@ use Rattle.operations.specs.declared.op.Op.TheVariants.{Load}
 use Rattle.operations.specs.Tree.{Tree, done, loads, ◌giving◌}
 use Rattle.meaning.specs.declared.value.Value.{Value}
 use Rattle.meaning.specs.declared.value.Value.TheVariants.{Index, Ring}
-use Rattle.meaning.specs.declared.value.Dual.{Dual}
-use Rattle.meaning.specs.Values.{Found, dual_add, dual_sub, dual_mul, dual_neg, dual_pow, as_dual, relates, ring_result, of_index, whole_numbers, literal_value, index_result, binary_result, negation_result, power_result, larger_result, smaller_result, absolute_result, call_result, compares}
+use Rattle.meaning.specs.Values.{Found, as_dual, of_index, whole_numbers, call_result}
 use Rattle.meaning.specs.Sites.{Site, place_of, kind_of}
-use Rattle.meaning.proofs.Powers.{value_of_pow}
 use Rattle.resolved.specs.SlotTables.{Names, kind_at}
 use Rattle.resolved.specs.ResolvedExprs.{slot_name}
 use Rattle.dual_evaluation.proofs.Located.{place_by_slot}
 use Rattle.transposition.specs.Worlds.{World, Local, at_place, value_load}
-use Rattle.transposition.specs.Reads.{value_from, value_or_zero, read_at, value_tree, values_tree, holds_tree, place_tree}
-use Rattle.sweep_trees.specs.declared.code.RingOp.{RingOp}
-use Rattle.sweep_trees.specs.declared.code.RingOp.TheVariants.{Add, Sub, Mul}
-use Rattle.sweep_trees.specs.Split.{SpotTree, scalar, element, elements, IndexTree, number, index_get, index_minus, index_binary, index_power, index_larger, index_smaller, index_remainder, index_absolute, IndexTrees, no_indices, index, RingTree, word, ring_get, widened, ring_minus, ring_binary, ring_power, ring_larger, ring_smaller, ring_absolute, TestTree, index_test, ring_test, not_test, and_test, or_test}
-use Rattle.sweep_trees.specs.Standing.{one, two, op_back, is_accessed_at, same_flag, is_place, is_slot, is_number, spot_back, index_back, indices_back, ring_back, test_back, is_spot_fit, is_index_fit, are_indices_fit, is_widened, is_ring_fit, is_test_fit}
-use Rattle.sweep_evaluation.specs.Machine.{Ran, ran, ◌to◌, exactly, index_found, larger_index, smaller_index, absolute_index, narrow, widen, ring_found, larger_word, smaller_word, absolute_word, load_at, spot_slot, is_accessed, spot_place, spot_word, index_value, index_values, ring_value, test_value}
+use Rattle.transposition.specs.Reads.{value_from, value_or_zero, read_at, value_tree, values_tree, place_tree}
+use Rattle.sweep_trees.specs.Split.{SpotTree, scalar, element, elements, IndexTree, index_get, IndexTrees}
+use Rattle.sweep_trees.specs.Standing.{one, two, is_accessed_at, same_flag, is_place, is_slot, spot_back, index_back, indices_back, is_spot_fit, is_index_fit, are_indices_fit}
+use Rattle.sweep_evaluation.specs.Machine.{Ran, ran, ◌to◌, exactly, narrow, load_at, spot_slot, is_accessed, spot_place, spot_word, index_value, index_values}
 use Rattle.undo_steps.specs.UndosStand.{unwatched}
 use Rattle.reverse_sweep.specs.Reversing.{Stage, Reversing, reversing, told}
 use Rattle.reverse_law.specs.Reverse.{IsNamed}

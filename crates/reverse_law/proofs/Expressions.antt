@@ -1,10 +1,8 @@
 -- By induction on split trees: expressions and conditions are evaluated as the trees that they stand for read.
-use Rattle.std.specs.Prelude.{◌≡◌, ℕ, zero, suc, ◌<◌, ℤ, pos, negsuc, Bool, true, false, not, ◌&&◌, ◌||◌, if◌then◌else◌, nat_lt, List, [], ◌∷◌, Option, Some, None, Result, Ok, Err, int_lt, int_le, neg_ℤ, refl}
-use Rattle.std.specs.Int.{w64, cast_unsigned, int_pow}
-use Rattle.std.proofs.Common.{ap, sym, subst, ◌∙◌, arith}
+use Rattle.std.specs.Prelude.{◌≡◌, ℕ, ℤ, pos, negsuc, Bool, true, false, not, ◌&&◌, ◌||◌, if◌then◌else◌, nat_lt, [], ◌∷◌, Ok, int_lt, int_le, neg_ℤ, refl}
+use Rattle.std.specs.Int.{int_pow}
+use Rattle.std.proofs.Common.{ap, sym, ◌∙◌}
 use Rattle.std.proofs.lemmas.Bool.{and_parts}
-use Rattle.std.proofs.lemmas.Bool.Decides.{nat_tests}
-use Rattle.ring_core.specs.declared.index.IndexTrap.{IndexTrap}
 use Rattle.ring_core.specs.declared.ring.Width.{Width}
 use Rattle.ring_core.specs.Index.{exact_index, index_rem}
 use Rattle.ring_core.specs.Ring.{ring_neg, ring_pow, signed_at}
@@ -13,32 +11,30 @@ use Rattle.fl_ast.specs.declared.kind.BinOp.{BinOp}
 use Rattle.fl_ast.specs.declared.kind.BinOp.TheVariants as op
 use Rattle.fl_ast.specs.declared.kind.RelOp.{RelOp}
 use Rattle.fl_ast.specs.declared.kind.Fun.TheVariants.{Max, Min, Abs, Mod}
-use Rattle.fl_ast.specs.Tree.{Expression, get}
+use Rattle.fl_ast.specs.Tree.{get}
 use Rattle.fl_types.specs.Kinds.{is_index_kind}
 use Rattle.fl_types.specs.Sharing.{is_ring_kind}
 use Rattle.fl_ast.specs.declared.kind.Kind.{Kind}
-use Rattle.store_core.specs.Keys.{place_in_slot}
-use Rattle.operations.specs.Tree.{Tree, done, ◌giving◌}
+use Rattle.operations.specs.Tree.{done}
 use Rattle.meaning.specs.declared.value.Value.{Value}
 use Rattle.meaning.specs.declared.value.Value.TheVariants.{Index, Ring}
 use Rattle.meaning.specs.declared.value.Dual.{Dual}
-use Rattle.meaning.specs.Values.{Found, dual_add, dual_sub, dual_mul, dual_neg, dual_pow, as_dual, relates, ring_result, of_index, literal_value, index_result, binary_result, negation_result, power_result, larger_result, smaller_result, absolute_result, call_result, compares, remainder, whole_numbers}
+use Rattle.meaning.specs.Values.{as_dual, relates, ring_result, of_index, literal_value, index_result, binary_result, negation_result, power_result, larger_result, smaller_result, absolute_result, compares, remainder}
 use Rattle.meaning.specs.Sites.{kind_of}
 use Rattle.meaning.proofs.Powers.{value_of_pow}
 use Rattle.resolved.specs.SlotTables.{Names}
-use Rattle.resolved.specs.ResolvedExprs.{slot_name}
 use Rattle.transposition.specs.Worlds.{World, Local}
-use Rattle.transposition.specs.Reads.{value_or_zero, value_tree, values_tree, holds_tree, place_tree}
+use Rattle.transposition.specs.Reads.{value_or_zero, value_tree, values_tree, holds_tree}
 use Rattle.sweep_trees.specs.declared.code.RingOp.{RingOp}
 use Rattle.sweep_trees.specs.declared.code.RingOp.TheVariants.{Add, Sub, Mul}
 use Rattle.sweep_trees.specs.Split.{SpotTree, scalar, element, elements, IndexTree, number, index_get, index_minus, index_binary, index_power, index_larger, index_smaller, index_remainder, index_absolute, IndexTrees, no_indices, index, RingTree, word, ring_get, widened, ring_minus, ring_binary, ring_power, ring_larger, ring_smaller, ring_absolute, TestTree, index_test, ring_test, not_test, and_test, or_test}
-use Rattle.sweep_trees.specs.Standing.{one, op_back, is_slot, is_number, spot_back, index_back, indices_back, ring_back, test_back, is_spot_fit, is_index_fit, are_indices_fit, is_widened, is_ring_fit, is_test_fit}
-use Rattle.sweep_evaluation.specs.Machine.{Ran, ran, ◌to◌, exactly, index_found, larger_index, smaller_index, absolute_index, widen, ring_found, larger_word, smaller_word, absolute_word, spot_slot, spot_place, spot_word, index_value, index_values, ring_value, test_value}
-use Rattle.undo_steps.specs.UndosStand.{unwatched, is_any_kind}
-use Rattle.reverse_sweep.specs.Reversing.{Stage, Reversing, reversing, told}
+use Rattle.sweep_trees.specs.Standing.{one, op_back, is_slot, spot_back, index_back, indices_back, ring_back, test_back, is_spot_fit, is_index_fit, are_indices_fit, is_widened, is_ring_fit, is_test_fit}
+use Rattle.sweep_evaluation.specs.Machine.{ran, ◌to◌, exactly, index_found, larger_index, smaller_index, absolute_index, widen, ring_found, larger_word, smaller_word, absolute_word, spot_word, index_value, index_values, ring_value, test_value}
+use Rattle.undo_steps.specs.UndosStand.{unwatched}
+use Rattle.reverse_sweep.specs.Reversing.{reversing, told}
 use Rattle.reverse_law.specs.Reverse.{IsNamed}
 use Rattle.reverse_law.proofs.Going.{go}
-use Rattle.reverse_law.proofs.Evaluating.{Matches, Evaluates, eval_done, eval_then, eval_map, eval_two, eval_exactly, IsSame, IsNumber, IsRing, IsWord, AreNumbers, IsAt, is_at, spot_at, slot_named, AtPlace, AtIndex, AtIndices, at_scalar, at_subscripts, at_one, at_word, at_number, word_of_kind, eval_argument, eval_arguments}
+use Rattle.reverse_law.proofs.Evaluating.{Evaluates, eval_done, eval_then, eval_map, eval_two, eval_exactly, IsSame, IsNumber, IsWord, AreNumbers, is_at, spot_at, slot_named, AtPlace, AtIndex, AtIndices, at_scalar, at_subscripts, at_one, at_word, at_number, word_of_kind, eval_argument, eval_arguments}
 
 -- ---- numbers of the index kind
 

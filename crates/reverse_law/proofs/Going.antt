@@ -1,5 +1,5 @@
 -- Trees of operations over a stage: where additions may go to sums.
-use Rattle.std.proofs.Common.{◌≡◌, ℕ, List, [], ◌∷◌, ◌++◌, refl, ap, sym, ◌∙◌, append_assoc, append-nil, Bool, true, false, cond, Option, Some, None}
+use Rattle.std.proofs.Common.{◌≡◌, ℕ, List, [], ◌∷◌, ◌++◌, refl, ap, sym, ◌∙◌, append_assoc, append-nil, Bool, true, false, Option, Some, None}
 use Rattle.std.specs.Prelude.{slice_index, ◌==◌, if◌then◌else◌}
 use Rattle.ring_core.specs.Ring.{ring_add}
 use Rattle.operations.specs.declared.op.Op.{Op}
@@ -8,8 +8,8 @@ use Rattle.operations.specs.Tree.{Tree, done, loads, does, ◌giving◌, Played,
 use Rattle.operations.specs.Ops.{acts}
 use Rattle.operations.specs.Collect.{collect, collect_add}
 use Rattle.transposition.specs.Worlds.{Local}
-use Rattle.sweep_evaluation.specs.Machine.{Ran, ran, ◌to◌}
-use Rattle.reverse_sweep.specs.Reversing.{Sums, Stage, Reversing, reversing, loaded_cell, acted, behind, summed, added_by, added, opened_sum, first_sum, later_sums, closed_sum}
+use Rattle.sweep_evaluation.specs.Machine.{Ran, ran}
+use Rattle.reverse_sweep.specs.Reversing.{Sums, Stage, Reversing, reversing, loaded_cell, acted, behind, summed, added_by, added, first_sum, later_sums}
 
 abbrev pub made : Op → Stage → Stage
 made (Load p) g = loaded_cell p g

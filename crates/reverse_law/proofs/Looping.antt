@@ -6,7 +6,7 @@ use Rattle.fl_ast.specs.declared.directive.Directive.{Directive}
 use Rattle.fl_ast.specs.Tree.{Statement, assignment, branch, loop, Statements, no_statements, statement}
 use Rattle.fl_types.specs.Nests.{is_nest, inner_body, iteration_body}
 use Rattle.fl_types.specs.Sharing.{assigns_in}
-use Rattle.store_core.specs.Keys.{slot_of, place_in_slot, place_of as place_in_shapes, first_at, same_key}
+use Rattle.store_core.specs.Keys.{slot_of, place_in_slot, first_at, same_key}
 use Rattle.store_core.proofs.Slots.{place_found}
 use Rattle.operations.specs.Tree.{Tree, done, does, ◌giving◌}
 use Rattle.operations.specs.Order.{rounds}
@@ -17,8 +17,8 @@ use Rattle.meaning.specs.Sites.{Site, place_of}
 use Rattle.meaning.specs.Statements.{private_names, value_at, Heads, iterations}
 use Rattle.resolved.specs.SlotTables.{Names}
 use Rattle.transposition.specs.Tapes.{Tape, Tapes, top, tape_at, top_tapes}
-use Rattle.transposition.specs.Worlds.{World, Local, is_reduction, with_own_value, with_own_adjoint, in_turn, in_iteration}
-use Rattle.transposition.specs.Back.{after_pop, turns_on, below_bounds, heads_on, loop_variables, with_variable_word, with_variable_words, turns_back, one_turn_back, loop_back, after_private_pops, with_clear_privates, with_collection, with_collection_at, with_collections, iteration_local, iteration_tree, loop_heads, below_heads, loop_iterations, parallel_back, back_all, back_inner, back_within}
+use Rattle.transposition.specs.Worlds.{World, Local, is_reduction, with_own_value, in_turn, in_iteration}
+use Rattle.transposition.specs.Back.{after_pop, below_bounds, heads_on, loop_variables, with_variable_word, with_variable_words, turns_back, one_turn_back, loop_back, after_private_pops, with_clear_privates, with_collection, with_collection_at, with_collections, iteration_local, iteration_tree, loop_heads, below_heads, loop_iterations, parallel_back, back_all, back_inner, back_within}
 use Rattle.sweep_steps.specs.declared.step.PrivateScalar.{PrivateScalar}
 use Rattle.sweep_steps.specs.StepsStand.{PrivatesStand}
 use Rattle.sweep_evaluation.specs.Machine.{Ran, ran}

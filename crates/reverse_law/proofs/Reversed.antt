@@ -1,30 +1,25 @@
 -- What is played without sums, and what that is of a whole program.
-use Rattle.std.proofs.Common.{◌≡◌, ℕ, zero, suc, ◌+◌, ◌<◌, List, [], ◌∷◌, map, length, refl, ap, sym, ◌∙◌, subst, arith, Bool, true, false, Option, Some, None}
-use Rattle.std.specs.Prelude.{slice_index, slice_get, if◌then◌else◌}
+use Rattle.std.proofs.Common.{◌≡◌, ℕ, zero, suc, ◌+◌, ◌<◌, List, [], ◌∷◌, length, refl, ap, sym, ◌∙◌, subst, arith}
+use Rattle.std.specs.Prelude.{slice_index, if◌then◌else◌}
 use Rattle.fl_ast.specs.declared.decl.Decl.{Decl}
-use Rattle.fl_ast.specs.declared.directive.Directive.{Directive}
-use Rattle.fl_ast.specs.Tree.{Statements}
 use Rattle.fl_types.specs.Nests.{is_nest, iteration_body}
 use Rattle.store_core.specs.declared.layout.Shape.{Shape}
 use Rattle.store_core.specs.Keys.{with_scalars}
-use Rattle.operations.specs.Tree.{Tree, play}
+use Rattle.operations.specs.Tree.{Tree}
 use Rattle.meaning.specs.Programs.{entry_cells}
 use Rattle.meaning.specs.Statements.{run_all}
-use Rattle.resolved.specs.SlotTables.{Names, kind_at, named_kind, kinds_of, names_of}
+use Rattle.resolved.specs.SlotTables.{kind_at, named_kind, kinds_of, names_of}
 use Rattle.resolved.specs.ResolvedExprs.{slot_name}
-use Rattle.transposition.specs.Tapes.{empty, tape_after, top_tapes}
-use Rattle.transposition.specs.Worlds.{World, Local, in_iteration}
+use Rattle.transposition.specs.Tapes.{empty, tape_after}
+use Rattle.transposition.specs.Worlds.{Local, in_iteration}
 use Rattle.transposition.specs.Back.{loop_iterations, back_all, back_inner}
 use Rattle.transposition.specs.Law.{flat, local}
 use Rattle.transposition.specs.Programs.{program_world}
 use Rattle.transposition.proofs.WholePrograms.{program_transposed}
-use Rattle.sweep_steps.specs.declared.step.PrivateScalar.{PrivateScalar}
-use Rattle.undo_steps.specs.UndoSteps.{UndoTrees}
-use Rattle.undo_steps.specs.UndosStand.{IterationsUndo, AllUndoStand}
-use Rattle.reverse_sweep.specs.Reversing.{Reversing, reversing, on_tape}
-use Rattle.reverse_sweep.specs.Machine.{below_counts, counts_on, iteration_undone, undos_run}
-use Rattle.reverse_law.specs.Reverse.{IsNamed, at_first, ended, ReverseIsPlayed, IterationIsPlayed, ProgramIsNamed, MachineIsTransposed}
-use Rattle.reverse_law.proofs.Going.{go, landed, go_played}
+use Rattle.reverse_sweep.specs.Reversing.{Reversing}
+use Rattle.reverse_sweep.specs.Machine.{undos_run}
+use Rattle.reverse_law.specs.Reverse.{at_first, ReverseIsPlayed, IterationIsPlayed, ProgramIsNamed, MachineIsTransposed}
+use Rattle.reverse_law.proofs.Going.{landed, go_played}
 use Rattle.reverse_law.proofs.Looping.{lands_one, named_in_iteration, iteration_is}
 use Rattle.reverse_law.proofs.Landing.{LandsAt}
 use Rattle.reverse_law.proofs.Undoing.{lands_all}

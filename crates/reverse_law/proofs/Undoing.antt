@@ -1,20 +1,19 @@
 -- By induction on statements of reverse sweeps: the machine comes to what the trees play.
-use Rattle.std.proofs.Common.{◌≡◌, ℕ, zero, suc, List, [], refl, ap, sym, ◌∙◌, subst, Option, Some, None}
+use Rattle.std.proofs.Common.{ℕ, zero, suc, List, sym, subst, Option, Some, None}
 use Rattle.std.specs.Prelude.{if◌then◌else◌}
 use Rattle.fl_ast.specs.declared.directive.Directive.{Directive}
 use Rattle.fl_ast.specs.Tree.{Statement, assignment, branch, loop, Statements, no_statements, statement, Arms, no_arms, arm}
 use Rattle.fl_types.specs.Nests.{is_nest, iteration_body}
-use Rattle.operations.specs.Tree.{Tree, play}
+use Rattle.operations.specs.Tree.{Tree}
 use Rattle.resolved.specs.SlotTables.{Names}
 use Rattle.transposition.specs.Tapes.{top}
 use Rattle.transposition.specs.Worlds.{World, Local, in_iteration}
-use Rattle.transposition.specs.Back.{after_pop, back, back_all, back_inner, back_arms}
+use Rattle.transposition.specs.Back.{back, back_all, back_inner, back_arms}
 use Rattle.undo_steps.specs.UndoSteps.{AroundUndo, back_turns, back_iterations, UndoTree, undo_store, undo_choice, undo_loop, UndoTrees, no_undos, undos, UndoArms, no_undo_arms, undo_arm}
 use Rattle.undo_steps.specs.UndosStand.{AroundUndoes, inside_world, inside_body, UndoStands, AllUndoStand, UndoArmsStand}
-use Rattle.reverse_sweep.specs.Reversing.{Stage, Reversing, reversing, popped}
+use Rattle.reverse_sweep.specs.Reversing.{Reversing, popped}
 use Rattle.reverse_sweep.specs.Machine.{around_run, undo_run, undos_run, arm_run}
 use Rattle.reverse_law.specs.Reverse.{IsNamed}
-use Rattle.reverse_law.proofs.Going.{go, landed}
 use Rattle.reverse_law.proofs.Landing.{LandsAt, lands_done, lands_both}
 use Rattle.reverse_law.proofs.Assigned.{lands_store}
 use Rattle.reverse_law.proofs.Looping.{lands_loop, lands_parallel, named_in_turn, named_in_iteration, iteration_is}

@@ -2,7 +2,6 @@
 use Rattle.std.specs.Prelude.{ℕ, zero, suc, ◌+◌, ◌*◌, ◌/◌, ◌%◌, ◌+ℤ◌, ◌-ℤ◌, int_div, Bool, true, false, if◌then◌else◌, List, [], ◌∷◌, Option, Some, None}
 use Rattle.std.specs.Int.{w64, cast_unsigned}
 use Rattle.ring_core.specs.Ring.{ring_add, ring_sub, ring_mul, ring_neg}
-use Rattle.fl_types.specs.declared.choice.Choice.{Choice}
 use Rattle.store_core.specs.Bounds.{clipped}
 use Rattle.meaning.specs.declared.value.IterationCount.{IterationCount}
 use Rattle.meaning.specs.Statements.{value_at}

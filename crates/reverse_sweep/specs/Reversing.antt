@@ -6,7 +6,7 @@ use Rattle.fl_types.specs.declared.choice.Choice.{Choice}
 use Rattle.operations.specs.declared.op.Op.{Op}
 use Rattle.operations.specs.declared.op.Op.TheVariants.{Load, Store, Bump, Add}
 use Rattle.operations.specs.Ops.{acts}
-use Rattle.transposition.specs.Tapes.{Tape, top, rest}
+use Rattle.transposition.specs.Tapes.{Tape, rest}
 use Rattle.transposition.specs.Worlds.{Local, is_one_step}
 use Rattle.sweep_evaluation.specs.Machine.{Ran, ran, Told}
 

@@ -1,12 +1,10 @@
 -- A run of two parts that gives a value: what its parts gave, and its log.
-use Rattle.std.proofs.Common.{◌≡◌, ℕ, List, ◌∷◌, refl, ap, sym, ◌∙◌, subst, Bool, true, false, Option, Some, None, Result, Ok, Err, inl, inr}
-use Rattle.fl_ast.specs.Tree.{Expression, Expressions, expression}
+use Rattle.std.proofs.Common.{◌≡◌, ℕ, List, refl, ap, sym, ◌∙◌, subst, Bool, true, false, Option, Some, None, Result, Ok, Err, inl, inr}
 use Rattle.fl_types.specs.declared.access.AccessKind.TheVariants.{Read}
 use Rattle.meaning.specs.declared.value.Value.{Value}
-use Rattle.meaning.specs.Logs.{Log, silence, both, Traced, pure, after, continuation, ◌>>=◌}
+use Rattle.meaning.specs.Logs.{Log, both, Traced, after, continuation, ◌>>=◌}
 use Rattle.meaning.specs.Sites.{Cells, Site}
-use Rattle.meaning.specs.Expressions.{content, read_cell, read_place, value_of, values_of}
-use Rattle.meaning.proofs.Parts.{bound}
+use Rattle.meaning.specs.Expressions.{content, read_cell, read_place}
 use Rattle.transposition.specs.Worlds.{World}
 use Rattle.transposition.specs.Law.{HasTouch, HasDifferentiatedRead}
 use Rattle.transposition.proofs.Reading.{seen, TouchesIn}

@@ -19,22 +19,22 @@ use Rattle.transposition.specs.Worlds.{World, Local, with_own_value}
 use Rattle.transposition.specs.Reads.{number_in}
 use Rattle.transposition.specs.Back.{turns_on, back_all}
 
-abbrev n : List ℕ
+abbrev pub n : List ℕ
 n = codes "n"
 
-abbrev i : List ℕ
+abbrev pub i : List ℕ
 i = codes "i"
 
-abbrev a : List ℕ
+abbrev pub a : List ℕ
 a = codes "a"
 
-abbrev d : List ℕ
+abbrev pub d : List ℕ
 d = codes "d"
 
-abbrev x : List ℕ
+abbrev pub x : List ℕ
 x = codes "x"
 
-abbrev y : List ℕ
+abbrev pub y : List ℕ
 y = codes "y"
 
 -- x(i) = x(i)*x(i)
@@ -50,7 +50,7 @@ squares_cells = number 2 ∷ word 3 ∷ word 5 ∷ None ∷ []
 abbrev squares_world : Choice → World
 squares_world c = record { site = squares_site; shared = 3; active = λ z. bytes_eq z x; choice = λ z. Shared; choices = λ k z. c }
 
-abbrev begin : Tape → List ℕ → List ℕ → Local
+abbrev pub begin : Tape → List ℕ → List ℕ → Local
 begin t vs bs = record { tape = t; values = vs; adjoints = bs }
 
 abbrev squares_back : Choice → Played Local
@@ -69,24 +69,24 @@ squares_end = refl
 -- a private scalar, a Reduction, an atomic increment, a power and a `max`:
 --   d = x(i)**3
 --   y = y + a*max(d, x(i))
-abbrev private_d : Directive
+abbrev pub private_d : Directive
 private_d = record clauses { privates = d ∷ [] }
 
-abbrev mixed_site : Site
+abbrev pub mixed_site : Site
 mixed_site = opening_site (declared kind.Index n ∷ declared kind.Ring a ∷ declared kind.Ring y ∷ declared kind.Ring x ∷ declared kind.Index i ∷ declared kind.Ring d ∷ []) (scalar n ∷ scalar a ∷ scalar y ∷ array x 2 ∷ []) all_pushed
 
-abbrev mixed : Statements
+abbrev pub mixed : Statements
 mixed = parallel private_d i (one 1) (name n)
     (statement (set 6 (to d) (power (at x (name i)) 3))
     (only (assignment 7 true (to y) (name y plus (name a times call Max (expression (name d) (expression (at x (name i)) no_expressions)))))))
 
-abbrev mixed_cells : Cells
+abbrev pub mixed_cells : Cells
 mixed_cells = number 2 ∷ word 7 ∷ word 100 ∷ word 2 ∷ word 18446744073709551613 ∷ None ∷ None ∷ []
 
-abbrev mixed_choice : List ℕ → Choice
+abbrev pub mixed_choice : List ℕ → Choice
 mixed_choice z = if bytes_eq z a then Reduction else Atomic
 
-abbrev mixed_world : World
+abbrev pub mixed_world : World
 mixed_world = record { site = mixed_site; shared = 5; active = λ z. bytes_eq z a || (bytes_eq z y || (bytes_eq z x || bytes_eq z d)); choice = λ z. Shared; choices = λ k z. mixed_choice z }
 
 abbrev mixed_back : Played Local

@@ -1,5 +1,5 @@
 -- The heads of a parallel loop: their bounds on the tape, and their variables in an iteration.
-use Rattle.std.proofs.Common.{◌≡◌, ◌≢◌, ℕ, zero, suc, ◌*◌, ◌<◌, List, [], ◌∷◌, refl, ap, sym, ◌∙◌, subst, arith, length, take, drop, Bool, true, false, ◌||◌, Option, Some, None, Ok, ℤ, inr}
+use Rattle.std.proofs.Common.{◌≡◌, ◌≢◌, ℕ, zero, suc, ◌*◌, ◌<◌, List, [], ◌∷◌, refl, ap, sym, ◌∙◌, subst, arith, length, take, Bool, true, false, ◌||◌, Option, Some, None, Ok, ℤ, inr}
 use Rattle.std.specs.Prelude.{◌/◌, ◌%◌, slice_index, slice_set, bytes_eq, int_div, ◌+ℤ◌, ◌-ℤ◌}
 use Rattle.std.specs.Int.{w64, cast_unsigned}
 use Rattle.std.proofs.Math.Nat.{div-lt_iff_lt-mul, mod-lt}

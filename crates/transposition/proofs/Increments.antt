@@ -20,7 +20,7 @@ use Rattle.meaning.specs.declared.value.Value.{Value}
 use Rattle.meaning.specs.declared.value.Value.TheVariants.{Index, Ring}
 use Rattle.meaning.specs.declared.value.Cause.{Cause}
 use Rattle.meaning.specs.Values.{as_dual, dual_add, dual_sub, whole_numbers}
-use Rattle.meaning.specs.Logs.{Log, silence, both, within, right_side, touched, Traced, pure, after, inside, ◌>>=◌}
+use Rattle.meaning.specs.Logs.{Log, silence, both, within, right_side, touched, Traced, after, inside, ◌>>=◌}
 use Rattle.meaning.specs.Sites.{Key, Cells, Site, place_of, kind_of, word_of}
 use Rattle.meaning.specs.Expressions.{content, value_of, values_of}
 use Rattle.meaning.specs.Statements.{store_at, terms_of, incremented_dual, increment_cell, increment_place, increment}
@@ -29,7 +29,7 @@ use Rattle.fl_types.specs.Increment.{Signed, are_free_of}
 use Rattle.meaning.specs.declared.value.Dual.{Dual}
 use Rattle.ring_core.specs.Ring.{ring_add, ring_sub}
 use Rattle.meaning.specs.Adjoints.{tangent_of}
-use Rattle.meaning.proofs.Parts.{TermsRun, bound, terms_run}
+use Rattle.meaning.proofs.Parts.{bound, terms_run}
 use Rattle.transposition.specs.Tapes.{Tape, tape_after}
 use Rattle.transposition.specs.Worlds.{World, Local, at_place, value_increment, name_at}
 use Rattle.transposition.specs.Reads.{place_tree}

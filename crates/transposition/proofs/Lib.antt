@@ -1,4 +1,4 @@
-mod Examples
+pub mod Examples
 pub mod Split
 pub mod Flats
 pub mod Keys

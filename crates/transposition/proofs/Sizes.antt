@@ -1,12 +1,10 @@
 -- Values are of their kind's size.
-use Rattle.std.proofs.Common.{◌≡◌, ℕ, zero, suc, ◌+◌, ◌*◌, ◌%◌, ◌<◌, ◌≤◌, ◌^◌, List, [], ◌∷◌, refl, sym, subst, arith, Bool, true, false, Result, Ok, Err, ℤ, pos, negsuc}
-use Rattle.std.specs.Prelude.{int_le, int_lt, if◌then◌else◌, ◌+ℤ◌, ◌-ℤ◌, ◌*ℤ◌, neg_ℤ, int_div, int_rem}
+use Rattle.std.proofs.Common.{◌≡◌, ℕ, ◌+◌, ◌*◌, ◌<◌, ◌^◌, List, [], ◌∷◌, refl, sym, subst, Bool, true, false, Result, Ok, Err, ℤ, pos}
+use Rattle.std.specs.Prelude.{int_le, int_lt, if◌then◌else◌, ◌+ℤ◌, ◌-ℤ◌, ◌*ℤ◌, neg_ℤ}
 use Rattle.std.specs.Int.{int_pow}
-use Rattle.std.proofs.lemmas.Bool.Decides.{nat_tests}
 use Rattle.ring_core.specs.declared.ring.Width.{Width}
-use Rattle.ring_core.specs.Index.{IsIndex, fits_index, exact_index, unless_zero, index_div, index_rem}
+use Rattle.ring_core.specs.Index.{IsIndex, exact_index, index_div, index_rem}
 use Rattle.ring_core.specs.declared.index.IndexTrap.{IndexTrap}
-use Rattle.ring_core.specs.declared.index.IndexTrap.TheVariants as index_trap
 use Rattle.fl_ast.specs.declared.kind.Kind.{Kind}
 use Rattle.fl_ast.specs.declared.kind.Kind.TheVariants as kind
 use Rattle.fl_ast.specs.declared.kind.BinOp.{BinOp}
@@ -17,7 +15,7 @@ use Rattle.fl_ast.specs.Tree.{Expression, literal, get, minus, binary, power, ca
 use Rattle.meaning.specs.declared.value.Dual.{Dual}
 use Rattle.meaning.specs.declared.value.Value.{Value}
 use Rattle.meaning.specs.declared.value.Value.TheVariants.{Index, Ring}
-use Rattle.meaning.specs.Values.{Found, of_index, dual_pow, as_dual, rank, literal_value, ring_result, binary_result, negation_result, power_result, absolute_result, remainder, call_result}
+use Rattle.meaning.specs.Values.{Found, of_index, as_dual, rank, literal_value, ring_result, binary_result, negation_result, power_result, absolute_result, remainder, call_result}
 use Rattle.meaning.specs.Logs.{lift, ◌>>=◌}
 use Rattle.meaning.specs.Sites.{Cells, place_of, kind_of}
 use Rattle.meaning.specs.Expressions.{read, value_of, values_of}

@@ -32,7 +32,7 @@ use Rattle.std.specs.Prelude.{int_div, ◌-ℤ◌}
 use Rattle.store_core.specs.Bounds.{clipped}
 use Rattle.meaning.specs.Sites.{in_turn as site_in_turn}
 use Rattle.transposition.proofs.Kept.{Keeps}
-use Rattle.std.proofs.Common.{◌-◌, inl, inr, take, drop}
+use Rattle.std.proofs.Common.{inl, inr, take}
 use Rattle.std.specs.Prelude.{slice_index, cond}
 use Rattle.std.proofs.lemmas.List.{get_or-set_same, get_or-set_other}
 use Rattle.meaning.specs.Logs.{both, within}

@@ -1,5 +1,5 @@
 -- What the reverse part reads. It goes by words, so tangents are 0; and it doesn't trap: what has no value is 0.
-use Rattle.std.specs.Prelude.{ℕ, ◌%◌, ◌^◌, ℤ, Bool, not, ◌&&◌, ◌||◌, List, [], ◌∷◌, Option, Some, None, Ok, Err, pos}
+use Rattle.std.specs.Prelude.{ℕ, ◌%◌, ◌^◌, ℤ, Bool, not, ◌&&◌, ◌||◌, List, [], ◌∷◌, Option, Ok, Err, pos}
 use Rattle.std.specs.Int.{w32, cast_signed}
 use Rattle.fl_ast.specs.declared.kind.Kind.{Kind}
 use Rattle.fl_ast.specs.declared.kind.Kind.TheVariants as kind

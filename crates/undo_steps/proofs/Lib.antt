@@ -1,1 +1,1 @@
--- Proofs of this crate.
+pub mod Examples

@@ -5,7 +5,7 @@ use Rattle.fl_ast.specs.declared.kind.Kind.{Kind}
 use Rattle.fl_ast.specs.declared.directive.Directive.{Directive}
 use Rattle.fl_ast.specs.Tree.{Expression, Designator, Statement, assignment, branch, loop, Statements, no_statements, statement, Arms, no_arms, arm}
 use Rattle.fl_types.specs.Increment.{Signed, increment_terms}
-use Rattle.fl_types.specs.Nests.{further_head, iteration_body}
+use Rattle.fl_types.specs.Nests.{iteration_body}
 use Rattle.store_core.specs.declared.layout.Shape.{Shape}
 use Rattle.store_core.specs.Keys.{place_of}
 use Rattle.meaning.specs.Statements.{private_names}
