@@ -1,0 +1,4 @@
+pub mod Lists
+pub mod NameReads
+pub mod Spreads
+pub mod Mentioned
