@@ -2,3 +2,5 @@ pub mod Lists
 pub mod NameReads
 pub mod Spreads
 pub mod Mentioned
+pub mod Layouts
+pub mod PlacedNames

@@ -83,3 +83,13 @@ filter_meets test (z ∷ xs) x h = by_test (test z) refl h (λ k. filter_meets t
 pub has_in : (x : List ℕ) (xs : List (List ℕ)) → has_name x xs ≡ true → IsAmong xs x
 has_in x [] h = never false h refl
 has_in x (y ∷ ys) h = or_to (bytes_eq x y) (has_name x ys) (λ e. inl (sym (same_name x y e))) (λ e. inr (has_in x ys e)) h
+
+-- what holds of a test's outcome
+pub at_test : (P : Bool → Type 0) (b : Bool) → (b ≡ true → P true) → (b ≡ false → P false) → P b
+at_test P true f g = f refl
+at_test P false f g = g refl
+
+-- names are compared alike both ways
+pub turned_test : (x y : List ℕ) → bytes_eq x y ≡ bytes_eq y x
+turned_test x y =
+    by_cases (bytes_eq x y) (λ e. e ∙ sym (ap (bytes_eq y) (same_name x y e) ∙ itself y)) (λ e. e ∙ sym (other_way x y e))
