@@ -4,3 +4,5 @@ pub mod Spreads
 pub mod Mentioned
 pub mod Layouts
 pub mod PlacedNames
+pub mod Setups
+pub mod Assigning

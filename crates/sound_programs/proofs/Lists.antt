@@ -93,3 +93,19 @@ at_test P false f g = g refl
 pub turned_test : (x y : List ℕ) → bytes_eq x y ≡ bytes_eq y x
 turned_test x y =
     by_cases (bytes_eq x y) (λ e. e ∙ sym (ap (bytes_eq y) (same_name x y e) ∙ itself y)) (λ e. e ∙ sym (other_way x y e))
+
+-- ---- what holds of each member
+
+abbrev pub Each : {X : Type 0} → (X → Type 0) → List X → Type 0
+Each {X} P xs = (x : X) → IsAmong xs x → P x
+
+pub each_both : {X : Type 0} (P : X → Type 0) (xs ys : List X) → Each P xs → Each P ys → Each P (xs ++ ys)
+each_both P [] ys f g x h = g x h
+each_both P (z ∷ xs) ys f g x (inl e) = f x (inl e)
+each_both P (z ∷ xs) ys f g x (inr h) = each_both P xs ys (λ y k. f y (inr k)) g x h
+
+pub each_left : {X : Type 0} (P : X → Type 0) (xs ys : List X) → Each P (xs ++ ys) → Each P xs
+each_left P xs ys f x h = f x (in_left xs ys x h)
+
+pub each_right : {X : Type 0} (P : X → Type 0) (xs ys : List X) → Each P (xs ++ ys) → Each P ys
+each_right P xs ys f x h = f x (in_right xs ys x h)

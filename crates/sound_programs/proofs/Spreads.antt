@@ -1,6 +1,7 @@
 -- The increments of a right side, as the law has them and as the rules of adjoints have them.
-use Rattle.std.proofs.Common.{◌≡◌, inl, inr, ℕ, zero, suc, Bool, true, false, not, if◌then◌else◌, List, [], ◌∷◌, ◌++◌, flat_map, map, refl, ap, sym, ◌∙◌}
+use Rattle.std.proofs.Common.{◌≡◌, inl, inr, ℕ, zero, suc, Bool, true, false, not, if◌then◌else◌, List, [], ◌∷◌, ◌++◌, flat_map, map, refl, ap, sym, subst, ◌∙◌}
 use Rattle.std.proofs.lemmas.List.{map-append}
+use Rattle.std.proofs.lemmas.List.Concat.{flat_map-append}
 use Rattle.fl_ast.specs.declared.kind.Kind.TheVariants as kind
 use Rattle.fl_ast.specs.declared.kind.BinOp.TheVariants as op
 use Rattle.fl_ast.specs.declared.kind.RelOp.{RelOp}
@@ -15,7 +16,7 @@ use Rattle.transposition.specs.Spread as law
 use Rattle.transposition.specs.Back.{rest_occurrences}
 use Rattle.transposition.specs.Law.{Use}
 use Rattle.transposition.specs.Needs.{NeedsFactor, NeedsFactors, NeedsOne, NeedsEach}
-use Rattle.sound_programs.proofs.Lists.{in_left, in_right}
+use Rattle.sound_programs.proofs.Lists.{in_left, in_right, Each, each_both, each_left, each_right}
 use Rattle.sound_programs.proofs.NameReads.{needs_of, needs_all, needs_condition}
 
 abbrev pub law_factor : rules.Factor → law.Factor
@@ -159,3 +160,72 @@ pub rest_places : (P : List ℕ → Type 0) (on : List ℕ → Bool) (rs : List 
 rest_places P on [] f = tt
 rest_places P on (r ∷ rs) f =
     both_places P _ _ (places_of P on r.1 (λ x h. f x (in_left (names_in r.1) (names_in_terms rs) x h)) r.0 []) (rest_places P on rs (λ x h. f x (in_right (names_in r.1) (names_in_terms rs) x h)))
+
+-- ---- which names they read
+
+-- what holds of the names of some factors, and of those of both lists
+abbrev Named : (List ℕ → Type 0) → List rules.Factor → Type 0
+Named P fs = Each P (flat_map names_in_factor fs)
+
+named_both : (P : List ℕ → Type 0) (fs gs : List rules.Factor) → Named P fs → Named P gs → Named P (fs ++ gs)
+named_both P fs gs h k = subst (Each P) (sym (flat_map-append names_in_factor fs gs)) (each_both P (flat_map names_in_factor fs) (flat_map names_in_factor gs) h k)
+
+read_both : (P : List ℕ → Type 0) (xs ys : List rules.Occurrence) → Each P (flat_map names_in_occurrence xs) → Each P (flat_map names_in_occurrence ys) → Each P (flat_map names_in_occurrence (xs ++ ys))
+read_both P xs ys h k = subst (Each P) (sym (flat_map-append names_in_occurrence xs ys)) (each_both P (flat_map names_in_occurrence xs) (flat_map names_in_occurrence ys) h k)
+
+named_power : (P : List ℕ → Type 0) (a : Expression) (n : ℕ) → Each P (names_in a) → Named P (rules.power_factors a n)
+named_power P a zero h = λ x k. absurd k
+named_power P a (suc zero) h = λ x k. absurd k
+named_power P a (suc (suc zero)) h = each_both P (names_in a) [] h (λ x k. absurd k)
+named_power P a (suc (suc (suc n))) h = each_both P (names_in a) [] h (λ x k. absurd k)
+
+abbrev Reads : (List ℕ → Type 0) → (List ℕ → Bool) → Expression → Type 0
+Reads P on e = (less : Bool) (fs : List rules.Factor) → Named P fs → Each P (flat_map names_in_occurrence (rules.occurrences on e less fs))
+
+-- with one factor more, an operand or a test of operands whose names have P
+mutual
+  pub reads_of : (P : List ℕ → Type 0) (on : List ℕ → Bool) (e : Expression) → Each P (names_in e) → Reads P on e
+  reads_of P on (literal n k) f less fs g = λ x h. absurd h
+  reads_of P on (get x s) f less fs g = by_test (on x)
+    where
+      by_test : (b : Bool) → Each P (flat_map names_in_occurrence (if b then record { place = record { name = x; subscripts = s }; negative = less; factors = fs } ∷ [] else []))
+      by_test true = each_both P (flat_map names_in_factor fs ++ names_in_all s) [] (each_both P (flat_map names_in_factor fs) (names_in_all s) g (λ y h. f y (inr h))) (λ y h. absurd h)
+      by_test false = λ y h. absurd h
+  reads_of P on (minus a) f less fs g = reads_of P on a f (not less) fs g
+  reads_of P on (binary op.Add a b) f less fs g =
+      read_both P (rules.occurrences on a less fs) (rules.occurrences on b less fs) (reads_of P on a (each_left P (names_in a) (names_in b) f) less fs g) (reads_of P on b (each_right P (names_in a) (names_in b) f) less fs g)
+  reads_of P on (binary op.Sub a b) f less fs g =
+      read_both P (rules.occurrences on a less fs) (rules.occurrences on b (not less) fs) (reads_of P on a (each_left P (names_in a) (names_in b) f) less fs g) (reads_of P on b (each_right P (names_in a) (names_in b) f) (not less) fs g)
+  reads_of P on (binary op.Mul a b) f less fs g =
+      read_both P (rules.occurrences on a less (fs ++ rules.operand b ∷ [])) (rules.occurrences on b less (fs ++ rules.operand a ∷ [])) (reads_of P on a (each_left P (names_in a) (names_in b) f) less (fs ++ rules.operand b ∷ []) (named_both P fs (rules.operand b ∷ []) g (each_both P (names_in b) [] (each_right P (names_in a) (names_in b) f) (λ x h. absurd h))))
+      (reads_of P on b (each_right P (names_in a) (names_in b) f) less (fs ++ rules.operand a ∷ []) (named_both P fs (rules.operand a ∷ []) g (each_both P (names_in a) [] (each_left P (names_in a) (names_in b) f) (λ x h. absurd h))))
+  reads_of P on (binary op.Div a b) f less fs g = λ x h. absurd h
+  reads_of P on (power a n) f less fs g = reads_of P on a f less (fs ++ rules.power_factors a n) (named_both P fs (rules.power_factors a n) g (named_power P a n f))
+  reads_of P on (call fun.Max args) f less fs g = reads_two P on rel.Ge args f less fs g
+  reads_of P on (call fun.Min args) f less fs g = reads_two P on rel.Le args f less fs g
+  reads_of P on (call fun.Abs args) f less fs g = reads_one P on args f less fs g
+  reads_of P on (call fun.Mod args) f less fs g = λ x h. absurd h
+
+  reads_two : (P : List ℕ → Type 0) (on : List ℕ → Bool) (o : RelOp) (s : Expressions) → Each P (names_in_all s) → (less : Bool) (fs : List rules.Factor) → Named P fs → Each P (flat_map names_in_occurrence (rules.of_two on o s less fs))
+  reads_two P on o no_expressions f less fs g = λ x h. absurd h
+  reads_two P on o (expression a no_expressions) f less fs g = λ x h. absurd h
+  reads_two P on o (expression a (expression b no_expressions)) f less fs g =
+      let one = each_left P (names_in a) (names_in b ++ []) f in
+      let two = each_left P (names_in b) [] (each_right P (names_in a) (names_in b ++ []) f) in
+      let tests = each_both P (names_in a ++ names_in b) [] (each_both P (names_in a) (names_in b) one two) (λ x h. absurd h) in
+      read_both P (rules.occurrences on a less (fs ++ rules.either 1 0 (relation o a b) ∷ [])) (rules.occurrences on b less (fs ++ rules.either 0 1 (relation o a b) ∷ [])) (reads_of P on a one less (fs ++ rules.either 1 0 (relation o a b) ∷ []) (named_both P fs (rules.either 1 0 (relation o a b) ∷ []) g tests))
+      (reads_of P on b two less (fs ++ rules.either 0 1 (relation o a b) ∷ []) (named_both P fs (rules.either 0 1 (relation o a b) ∷ []) g tests))
+  reads_two P on o (expression a (expression b (expression c s))) f less fs g = λ x h. absurd h
+
+  reads_one : (P : List ℕ → Type 0) (on : List ℕ → Bool) (s : Expressions) → Each P (names_in_all s) → (less : Bool) (fs : List rules.Factor) → Named P fs → Each P (flat_map names_in_occurrence (rules.of_one on s less fs))
+  reads_one P on no_expressions f less fs g = λ x h. absurd h
+  reads_one P on (expression a no_expressions) f less fs g =
+      let one = each_left P (names_in a) [] f in
+      reads_of P on a one less (fs ++ rules.either rules.minus_one 1 (relation rel.Lt a (literal 0 kind.Ring)) ∷ [])
+      (named_both P fs (rules.either rules.minus_one 1 (relation rel.Lt a (literal 0 kind.Ring)) ∷ []) g (each_both P (names_in a ++ []) [] (each_both P (names_in a) [] one (λ x h. absurd h)) (λ x h. absurd h)))
+  reads_one P on (expression a (expression b s)) f less fs g = λ x h. absurd h
+
+pub rest_reads : (P : List ℕ → Type 0) (on : List ℕ → Bool) (rs : List Signed) → Each P (names_in_terms rs) → Each P (flat_map names_in_occurrence (rules.rest_occurrences on rs))
+rest_reads P on [] f = λ x h. absurd h
+rest_reads P on (r ∷ rs) f =
+    read_both P (rules.occurrences on r.1 r.0 []) (rules.rest_occurrences on rs) (reads_of P on r.1 (each_left P (names_in r.1) (names_in_terms rs) f) r.0 [] (λ x h. absurd h)) (rest_reads P on rs (each_right P (names_in r.1) (names_in_terms rs) f))
