@@ -6,3 +6,4 @@ pub mod Layouts
 pub mod PlacedNames
 pub mod Setups
 pub mod Assigning
+pub mod Trees
