@@ -7,3 +7,5 @@ pub mod PlacedNames
 pub mod Setups
 pub mod Assigning
 pub mod Trees
+pub mod Turning
+pub mod Rounding
