@@ -9,3 +9,4 @@ pub mod Assigning
 pub mod Trees
 pub mod Turning
 pub mod Rounding
+pub mod Stating
