@@ -10,3 +10,4 @@ pub mod Trees
 pub mod Turning
 pub mod Rounding
 pub mod Stating
+pub mod Programs

@@ -1,0 +1,67 @@
+-- The law of transposition for accepted programs: its premises on names follow from typing and from the sets of names.
+use Rattle.std.specs.Prelude.{◌≡◌, ℕ, ◌+◌, ◌<◌, ◌^◌, All, Bool, true, false, List, length, Some, None, Ok, slice_index}
+use Rattle.fl_ast.specs.declared.stmt.Program.{Program}
+use Rattle.fl_ast.specs.Readable.{IsReadable}
+use Rattle.fl_ast.specs.Tree.{stmt_trees, program_tree}
+use Rattle.fl_types.specs.declared.choice.Choice.{Choice}
+use Rattle.fl_types.specs.Rows.{judged}
+use Rattle.fl_types.specs.Sharing.{has_name}
+use Rattle.store_core.specs.declared.values.Entry.{Entry}
+use Rattle.store_core.specs.Places.{shapes_of}
+use Rattle.meaning.specs.declared.value.Dual.{Dual}
+use Rattle.meaning.specs.declared.value.Value.TheVariants.{Ring}
+use Rattle.meaning.specs.Logs.{events}
+use Rattle.meaning.specs.Sites.{Cells}
+use Rattle.meaning.specs.Expressions.{content}
+use Rattle.meaning.specs.Stops.{Limits, by_conflict, at_end, first_stop}
+use Rattle.meaning.specs.Adjoints.{cells_along, unit}
+use Rattle.meaning.specs.Programs.{entry_cells, run_of, adjoint_of}
+use Rattle.activity.specs.Active.{first_misfit}
+use Rattle.adjoint_sets.specs.Names.{is_active, is_needed}
+use Rattle.transposition.specs.Worlds.{World, name_at}
+use Rattle.transposition.specs.Law.{Like, AreWords, SharedApart}
+use Rattle.transposition.specs.Calms.{PairwiseAll}
+use Rattle.transposition.specs.Sound.{SoundAll}
+use Rattle.transposition.specs.Programs.{program_world}
+use Rattle.transposition.specs.Answer.{reverse_run}
+use Rattle.sound_programs.specs.Uses.{outer_use, all_keep_variables, AreFitting}
+
+-- a program that some text reads as, and that typing doesn't refuse, with names that may be asked of and by
+pub record IsAccepted (p : Program) (of wrt : List (List ℕ)) : Type 0 where
+  pub readable : IsReadable p
+  pub typed : judged p ≡ Ok p
+  pub fit : first_misfit p of wrt ≡ None
+  pub keeps : all_keep_variables p ≡ true
+
+-- where the reverse part of a program stands, for these choices: old values of the needed names are pushed
+abbrev pub world_of_program : Program → (of wrt : List (List ℕ)) → List Entry → (ℕ → List ℕ → Choice) → World
+world_of_program p of wrt values choices = program_world (program_tree p) (shapes_of p values) (is_needed p (is_active p of wrt)) (is_active p of wrt) choices
+
+-- what the law asks of a program's names holds
+abbrev pub ProgramsAreSound : Type 0
+ProgramsAreSound =
+    (p : Program) (of wrt : List (List ℕ)) (values : List Entry) (choices : ℕ → List ℕ → Choice) → IsAccepted p of wrt → AreFitting p (is_active p of wrt) choices
+    → SoundAll (world_of_program p of wrt values choices) (outer_use p of wrt) (stmt_trees p.body)
+
+-- each name of `wrt` moves; a name that moves and doesn't count isn't in `of`; an active argument counts
+pub record NamesFit (p : Program) (of wrt : List (List ℕ)) : Type 0 where
+  pub moved : (x : List ℕ) → has_name x wrt ≡ true → (outer_use p of wrt).moved x ≡ true
+  pub seeded : (x : List ℕ) → (outer_use p of wrt).live x ≡ false → (outer_use p of wrt).moved x ≡ true → has_name x of ≡ false
+  pub live : (x : List ℕ) → is_active p of wrt x ≡ true → has_name x p.args ≡ true → (outer_use p of wrt).live x ≡ true
+
+abbrev pub AskedNamesFit : Type 0
+AskedNamesFit = (p : Program) (of wrt : List (List ℕ)) → IsAccepted p of wrt → NamesFit p of wrt
+
+-- The run of an accepted program being stopped by nothing, its reverse part on the tape and the final values of the needed names leaves in
+-- the adjoint's cell of each place of an active name of `wrt` the adjoint of the program, for a seed on the names of `of` alone; that the
+-- differentiated reads of names with the choice Shared are apart is for certificates to show.
+abbrev pub AcceptedIsTransposed : Type 0
+AcceptedIsTransposed =
+    (p : Program) (of wrt : List (List ℕ)) (values : List Entry) (choices : ℕ → List ℕ → Choice) (limits : Limits) (words vs seed : List ℕ) (s2 : Cells) (j : ℕ) (d : Dual)
+    → let w = world_of_program p of wrt values choices in
+    let s = entry_cells (program_tree p) (shapes_of p values) words in
+    IsAccepted p of wrt → AreFitting p (is_active p of wrt) choices → PairwiseAll SharedApart (stmt_trees p.body) w (cells_along (unit j) s) → All (λ x. x < 2 ^ 64) words
+    → (run_of (program_tree p) (shapes_of p values) (is_needed p (is_active p of wrt)) s).out ≡ Ok s2 → first_stop by_conflict limits (events (run_of (program_tree p) (shapes_of p values) (is_needed p (is_active p of wrt)) s).log) ≡ at_end
+    → Like (outer_use p of wrt) w.site.keys vs s2 → length vs ≡ length w.site.keys → length seed ≡ length w.site.keys → AreWords seed → ((q : ℕ) → has_name (name_at w.site.keys q) of ≡ false → slice_index seed q ≡ 0)
+    → j < w.shared → content s j ≡ Some (Ring d) → has_name (name_at w.site.keys j) wrt ≡ true → is_active p of wrt (name_at w.site.keys j) ≡ true
+    → slice_index (reverse_run w (stmt_trees p.body) s vs seed).cells (w.shared + j) ≡ adjoint_of (program_tree p) (shapes_of p values) words seed j
