@@ -11,3 +11,4 @@ pub mod Turning
 pub mod Rounding
 pub mod Stating
 pub mod Programs
+pub mod Transposing

@@ -1,5 +1,5 @@
 -- An accepted program with its sets of names is set up as the law wants it.
-use Rattle.std.proofs.Common.{◌≡◌, ◌⊎◌, inl, inr, ℕ, ◌<◌, ◌≤◌, ◌^◌, Bool, true, false, not, ◌&&◌, ◌||◌, if◌then◌else◌, cond, bytes_eq, List, [], ◌∷◌, ◌++◌, filter, find, map, Option, Some, None, Ok, Err, refl, ap, sym, subst, ◌∙◌, arith}
+use Rattle.std.proofs.Common.{◌≡◌, ◌⊎◌, inl, inr, ℕ, ◌<◌, ◌≤◌, ◌^◌, Bool, true, false, not, ◌&&◌, ◌||◌, if◌then◌else◌, cond, bytes_eq, List, [], ◌∷◌, ◌++◌, filter, find, map, length, Option, Some, None, Ok, Err, refl, ap, sym, subst, ◌∙◌, arith}
 use Rattle.std.specs.List.{list_any, list_all}
 use Rattle.std.proofs.lemmas.Bool.{and_parts, and_from, or_parts, or_left, or_right, or_from, true_from_ne_false}
 use Rattle.fl_base.specs.Spelling.{is_name}
@@ -344,3 +344,7 @@ names_fit p of wrt a = record { moved = moved; seeded = seeded; live = live }
         let g = all_fit p of wrt a.fit x (in_left of wrt x i) in
         let active = active_both p of wrt x m (begins p.decls of (map turned (program_flows p)) x i (known x g)) in
         never (is_active p of wrt x && not (is_own p x)) (live x active (and_parts (has_name x p.args) (is_ring_name p.decls x) g).0) h)
+
+-- a place of the layout is none of a loop's own names
+pub low_unowned : (p : Program) (of wrt : List (List ℕ)) (values : List Entry) → IsAccepted p of wrt → (q : ℕ) → q < length (keys_of (shapes_of p values)) → is_own p (name_at (keys_of (with_scalars (shapes_of p values) p.decls)) q) ≡ false
+low_unowned p of wrt values a q h = laid_unscoped p (clean_body p of wrt a) values (name_at (keys_of (with_scalars (shapes_of p values) p.decls)) q) (low_name p.decls (shapes_of p values) q h)
