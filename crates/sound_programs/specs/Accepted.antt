@@ -17,6 +17,7 @@ use Rattle.meaning.specs.Stops.{Limits, by_conflict, at_end, first_stop}
 use Rattle.meaning.specs.Adjoints.{cells_along, unit}
 use Rattle.meaning.specs.Programs.{entry_cells, run_of, adjoint_of}
 use Rattle.activity.specs.Active.{first_misfit}
+use Rattle.adjoint_choices.specs.Choosing.{choices_of}
 use Rattle.adjoint_sets.specs.Names.{is_active, is_needed}
 use Rattle.transposition.specs.Worlds.{World, name_at}
 use Rattle.transposition.specs.Law.{Like, AreWords, SharedApart}
@@ -24,7 +25,7 @@ use Rattle.transposition.specs.Calms.{PairwiseAll}
 use Rattle.transposition.specs.Sound.{SoundAll}
 use Rattle.transposition.specs.Programs.{program_world}
 use Rattle.transposition.specs.Answer.{reverse_run}
-use Rattle.sound_programs.specs.Uses.{outer_use, all_keep_variables, AreFitting}
+use Rattle.sound_programs.specs.Uses.{outer_use, all_keep_variables, AreFitting, choice_in}
 
 -- a program that some text reads as, and that typing doesn't refuse, with names that may be asked of and by
 pub record IsAccepted (p : Program) (of wrt : List (List ℕ)) : Type 0 where
@@ -51,6 +52,10 @@ pub record NamesFit (p : Program) (of wrt : List (List ℕ)) : Type 0 where
 
 abbrev pub AskedNamesFit : Type 0
 AskedNamesFit = (p : Program) (of wrt : List (List ℕ)) → IsAccepted p of wrt → NamesFit p of wrt
+
+-- the choices that are made where nothing is known of which iterations meet fit
+abbrev pub MadeChoicesFit : Type 0
+MadeChoicesFit = (p : Program) (of wrt : List (List ℕ)) → IsAccepted p of wrt → AreFitting p (is_active p of wrt) (choice_in (choices_of p (is_active p of wrt)))
 
 -- The run of an accepted program being stopped by nothing, its reverse part on the tape and the final values of the needed names leaves in
 -- the adjoint's cell of each place of an active name of `wrt` the adjoint of the program, for a seed on the names of `of` alone; that the

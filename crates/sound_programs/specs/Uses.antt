@@ -1,17 +1,19 @@
 -- The names of a program as the law of transposition speaks of them, and what it asks of clauses and choices.
-use Rattle.std.specs.Prelude.{◌≡◌, ℕ, Bool, true, false, not, ◌&&◌, List, [], map}
+use Rattle.std.specs.Prelude.{◌≡◌, ℕ, Bool, true, false, not, ◌&&◌, if◌then◌else◌, List, [], map}
 use Rattle.std.specs.List.{list_all}
 use Rattle.fl_ast.specs.declared.stmt.Program.{Program}
 use Rattle.fl_ast.specs.Tree.{stmt_trees}
 use Rattle.fl_types.specs.declared.choice.Choice.{Choice}
+use Rattle.fl_types.specs.declared.choice.Choice.TheVariants.{Shared, Atomic, Reduction}
+use Rattle.fl_types.specs.declared.choice.Chosen.{Chosen}
 use Rattle.fl_types.specs.Sharing.{has_name, assigns_in, ParallelLoop, loops_of_all}
 use Rattle.store_core.specs.Scopes.{scopes_in}
 use Rattle.reachability.specs.Reached.{IsAmong}
 use Rattle.activity.specs.Active.{program_flows, turned}
+use Rattle.adjoint_rules.specs.Scopes.{is_atomic, is_reduction, has_choice}
 use Rattle.adjoint_choices.specs.Choosing.{is_scalar_name}
 use Rattle.adjoint_sets.specs.Reach.{is_reached_name}
 use Rattle.adjoint_sets.specs.Names.{is_active, is_needed}
-use Rattle.transposition.specs.Worlds.{is_reduction}
 use Rattle.transposition.specs.Law.{Use}
 
 -- data flows to the name from one of `wrt`
@@ -51,3 +53,7 @@ pub record IsCollectable (p : Program) (l : ParallelLoop) (x : List ℕ) : Type 
 abbrev pub AreFitting : Program → (active : List ℕ → Bool) → (ℕ → List ℕ → Choice) → Type 0
 AreFitting p active choices =
     (l : ParallelLoop) → IsAmong (loops_of_all [] (stmt_trees p.body)) l → (x : List ℕ) → active x ≡ true → is_reduction (choices l.number x) ≡ true → IsCollectable p l x
+
+-- the choice for a name in the loop with a number, Shared where none is made
+abbrev pub choice_in : List Chosen → ℕ → List ℕ → Choice
+choice_in choices number x = if has_choice is_reduction choices number x then Reduction else if has_choice is_atomic choices number x then Atomic else Shared
