@@ -1,13 +1,12 @@
 -- Bounds of loops as numbers of 32 bits.
 use Rattle.std.specs.Prelude.{◌≡◌, ◌≢◌, ℕ, ◌<◌, ℤ, pos, ◌+ℤ◌, ◌-ℤ◌, int_div, Bool, true, false, if◌then◌else◌, List, refl}
 use Rattle.std.specs.Ordering.{int_eq}
-use Rattle.std.proofs.Common.{w32, w64, to_z, of_z, ap, sym, subst, ◌∙◌, arith}
+use Rattle.std.proofs.Common.{w32, to_z, of_z, ap, sym, subst, ◌∙◌, arith}
 use Rattle.std.proofs.lemmas.Int.{to_z-of_z}
 use Rattle.std.specs.Cmp.{signed_Decides}
 use Rattle.ring_core.specs.Index.{IsIndex}
 use Rattle.store_core.specs.Bounds.{clipped}
 use Rattle.meaning.specs.declared.value.IterationCount.{IterationCount}
-use Rattle.meaning.specs.Statements.{value_at}
 use Rattle.meaning.proofs.Variables.{variables_fit}
 use Rattle.dual_evaluation.specs.declared.stop.Halt.TheVariants.{ZeroDivisor}
 use Rattle.dual_evaluation.proofs.Counts.{from_range}
@@ -60,17 +59,15 @@ turns_counted stands lost u a b c p q r n e f g z k = record {
       rw t (rw (e, f, g, k) refl, h);
 }
 
-pub turns_fit : (a b c : ℤ) (n : ℕ) → IsIndex a → IsIndex b → n ≡ clipped (int_div ((b -ℤ a) +ℤ c) c) → HasNumbers (turns_from a b c n)
-turns_fit a b c n h i k = λ j l. variables_fit a b c j h i (subst (λ (m : ℕ). j < m) k l)
-
-pub fit_by : (t : IterationCount) (a b c : ℤ) (n : ℕ) → t ≡ turns_from a b c n → HasNumbers (turns_from a b c n) → HasNumbers t
-fit_by t a b c n e h = subst (λ (u : IterationCount). HasNumbers u) (sym e) h
+pub turns_fit : (t : IterationCount) (a b c : ℤ) (n : ℕ) → t ≡ turns_from a b c n → IsIndex a → IsIndex b → IsIndex c → n ≡ clipped (int_div ((b -ℤ a) +ℤ c) c) → HasNumbers t
+turns_fit t a b c n e h i j k =
+    subst (λ (u : IterationCount). HasNumbers u) (sym e) record { first = h; last = i; step = j; variable = λ m l. variables_fit a b c m h i (subst (λ (o : ℕ). m < o) k l) }
 
 pub zero_of : (b : Bool) (c : ℤ) → b ≡ true → b ≡ int_eq c (pos 0) → c ≡ pos 0
 zero_of b c t e = (signed_Decides c (pos 0)).0 (sym e ∙ t)
 
-pub no_turns_fit : (p q r : ℤ) → HasNumbers (turns_from p q r 0)
-no_turns_fit p q r = λ k l. absurd (omega (arith, l))
+pub no_turns_fit : (t : IterationCount) (a b c : ℤ) → t ≡ turns_from a b c 0 → IsIndex a → IsIndex b → IsIndex c → HasNumbers t
+no_turns_fit t a b c e h i j = subst (λ (u : IterationCount). HasNumbers u) (sym e) record { first = h; last = i; step = j; variable = λ k l. absurd (omega (arith, l)) }
 
 -- a step, and then an evaluation
 pub leaves_does : {V A : Type 0} (run : V → Run) (watched : V → ℕ → List Touch → Type 0) (places : V → ℕ) (judge : Judge) (u v w : V) (a : A) (f : Standing → Standing) (m : Standing → Ran Standing A)

@@ -1,6 +1,6 @@
 -- Steps of a forward sweep, one after the other.
-use Rattle.std.specs.Prelude.{◌≡◌, ℕ, zero, suc, ◌+◌, ◌<◌, ◌≤◌, Bool, if◌then◌else◌, List, [], ◌∷◌, ◌++◌, map, take, length, slice_index_or, refl}
-use Rattle.std.proofs.Common.{ap, sym, subst, ◌∙◌, arith}
+use Rattle.std.specs.Prelude.{◌≡◌, ℕ, Bool, if◌then◌else◌, List, [], ◌∷◌, ◌++◌, map, refl}
+use Rattle.std.proofs.Common.{sym}
 use Rattle.ring_core.specs.Ring.{ring_add, ring_sub}
 use Rattle.resolved.specs.SlotTables.{Names}
 use Rattle.sweep_trees.specs.Split.{ring_tree}

@@ -1,2 +1,5 @@
 pub mod Joining
 pub mod Bounds
+pub mod Iterating
+pub mod Turning
+pub mod Choosing

@@ -1,5 +1,5 @@
 -- Statements as a forward sweep runs them: every step leaves what it leaves, whatever came before it; after a stop nothing changes.
-use Rattle.std.specs.Prelude.{ℕ, zero, suc, ◌+◌, ◌*◌, ◌/◌, ◌%◌, ◌<◌, ℤ, pos, ◌+ℤ◌, ◌-ℤ◌, int_div, Bool, true, false, if◌then◌else◌, nat_le, nat_lt, List, [], ◌∷◌, ◌++◌, length, Option, Some, None}
+use Rattle.std.specs.Prelude.{ℕ, zero, suc, ◌+◌, ◌*◌, ◌/◌, ◌%◌, ◌<◌, ℤ, pos, ◌+ℤ◌, ◌-ℤ◌, int_div, Bool, if◌then◌else◌, nat_le, nat_lt, List, [], ◌∷◌, ◌++◌, length, Option, Some, None}
 use Rattle.std.specs.Ordering.{int_eq}
 use Rattle.ring_core.specs.Index.{IsIndex}
 use Rattle.ring_core.specs.Ring.{ring_add, ring_sub}
@@ -101,9 +101,12 @@ abbrev pub inner_run : Names → Option HeadTree → Standing → Ran Standing F
 inner_run names None s = ran None s
 inner_run names (Some h) s = head_run names h s to (λ t. ran (Some (h.place, t)))
 
--- a loop's variable is of the index kind in each turn
-abbrev pub HasNumbers : IterationCount → Type 0
-HasNumbers t = (k : ℕ) → k < t.count → IsIndex (value_at t k)
+-- a loop's bounds are of the index kind, and in each turn its variable
+pub record HasNumbers (t : IterationCount) : Type 0 where
+  pub first : IsIndex t.first
+  pub last : IsIndex t.last
+  pub step : IsIndex t.step
+  pub variable : (k : ℕ) → k < t.count → IsIndex (value_at t k)
 
 abbrev pub FurtherHasNumbers : Further → Type 0
 FurtherHasNumbers None = Unit {0}
@@ -197,3 +200,12 @@ abbrev mutual
   arms_run names (step_arm test body arms) m other s =
       let b = test_value told names test s in
       if b.out then arm_run m (steps_run names body) b.state else arms_run names arms (m + 1) other b.state
+
+-- ---- choices
+
+-- the number of the first arm whose test holds, or of all arms where none does
+abbrev pub arm_chosen : Names → ArmTrees → Standing → Ran Standing ℕ
+arm_chosen names no_step_arms s = ran 0 s
+arm_chosen names (step_arm test body arms) s =
+    let b = test_value told names test s in
+    if b.out then ran 0 b.state else (arm_chosen names arms b.state to (λ n. ran (suc n)))

@@ -43,15 +43,16 @@ fn steps_between(first: i32, last: i32, step: i32) -> u64
 /// The same of numbers of the index kind.
 fn count_between(first: Index, last: Index, step: Index) -> u64
     requires { step ≢ pos 0 }
-    ensures count { result ≡ clipped (int_div ((last -ℤ first) +ℤ step) step) }
-    ensures first { IsIndex first }
-    ensures last { IsIndex last }
+    ensures { result ≡ clipped (int_div ((last -ℤ first) +ℤ step) step) }
 {
     steps_between(first.value(), last.value(), step.value())
 }
 
 fn turns(first: Index, last: Index, step: Index, count: u64) -> IterationCount
-    ensures { result ≡ record { first = first; last = last; step = step; count = count } }
+    ensures value { result ≡ record { first = first; last = last; step = step; count = count } }
+    ensures first { IsIndex first }
+    ensures last { IsIndex last }
+    ensures step { IsIndex step }
 {
     IterationCount {
         first: first.value(),

@@ -1,14 +1,11 @@
-use Rattle.std.proofs.Common.{rules, ◌≡◌, ap, sym, subst, ◌∙◌, true, false, Some, None, pos}
-use Rattle.std.specs.Prelude.{refl}
 use Rattle.sweep_trees.specs.Split.{index_tree}
-use Rattle.sweep_steps.specs.Steps.{option_tree, head_tree, inner_tree}
-use Rattle.sweep_evaluation.specs.Machine.{Does, ran, ◌to◌, index_value}
-use Rattle.sweep_evaluation.proofs.Doing.{does_both, does_nothing}
-use Rattle.sweep_law.specs.Telling.{Standing, told}
-use Rattle.forward_state.specs.Holding.{Holds}
+use Rattle.sweep_steps.specs.Steps.{option_tree}
+use Rattle.sweep_evaluation.specs.Machine.{◌to◌, index_value}
+use Rattle.sweep_evaluation.proofs.Doing.{does_both}
+use Rattle.sweep_law.specs.Telling.{told}
 use Rattle.forward_state.specs.Steps.{on_line}
-use Rattle.forward_sweep.specs.Machine.{step_number, counted, head_run}
-use Rattle.forward_sweep.proofs.Bounds.{turns_from, no_turns_counted, turns_counted, turns_fit, fit_by, zero_of, no_turns_fit, leaves_does}
+use Rattle.forward_sweep.specs.Machine.{step_number, counted}
+use Rattle.forward_sweep.proofs.Bounds.{leaves_does}
 use Rattle.forward_sweep.proofs.heads.head_run.Goals as goal
 
 pub returns-clause-does : goal.returns-clause-does
