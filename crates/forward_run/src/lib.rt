@@ -1,0 +1,11 @@
+//! The forward sweep of a whole program: its opening, the run of its statements, and what is left of it or why it stopped.
+#![tactic(auto)]
+
+mod entry;
+mod opening;
+mod stop;
+mod sweep;
+
+pub use opening::{Opened, open_program};
+pub use stop::ForwardStop;
+pub use sweep::{Forwarded, forward};
