@@ -55,7 +55,7 @@ kinded_terms : (ring : List ℕ → Bool) (rs : List Signed) → EachTerm (Kinde
 kinded_terms ring [] h = tt
 kinded_terms ring (r ∷ rs) h = (h.0, kinded_terms ring rs h.1)
 
-term_names : (P : List ℕ → Type 0) (rs : List Signed) → EachTerm (λ e. Each P (names_in e)) rs → Each P (names_in_terms rs)
+pub term_names : (P : List ℕ → Type 0) (rs : List Signed) → EachTerm (λ e. Each P (names_in e)) rs → Each P (names_in_terms rs)
 term_names P [] h = λ x k. absurd k
 term_names P (r ∷ rs) h = each_both P (names_in r.1) (names_in_terms rs) h.0 (term_names P rs h.1)
 

@@ -12,3 +12,5 @@ pub mod Rounding
 pub mod Stating
 pub mod Programs
 pub mod Transposing
+pub mod LoopNumbers
+pub mod Collecting

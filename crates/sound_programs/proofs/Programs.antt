@@ -348,3 +348,10 @@ names_fit p of wrt a = record { moved = moved; seeded = seeded; live = live }
 -- a place of the layout is none of a loop's own names
 pub low_unowned : (p : Program) (of wrt : List (List ℕ)) (values : List Entry) → IsAccepted p of wrt → (q : ℕ) → q < length (keys_of (shapes_of p values)) → is_own p (name_at (keys_of (with_scalars (shapes_of p values) p.decls)) q) ≡ false
 low_unowned p of wrt values a q h = laid_unscoped p (clean_body p of wrt a) values (name_at (keys_of (with_scalars (shapes_of p values) p.decls)) q) (low_name p.decls (shapes_of p values) q h)
+
+-- an active name is no variable
+pub active_whole : (p : Program) (of wrt : List (List ℕ)) → IsAccepted p of wrt → (x : List ℕ) → is_active p of wrt x ≡ true → is_varying p x ≡ false
+active_whole p of wrt a x h =
+    fails (is_varying p x) (λ v.
+    never (is_ring_name p.decls x) (varied_ring p wrt (λ y i. all_fit p of wrt a.fit y (in_right of wrt y i)) x ((reached_name p.decls wrt (program_flows p) x).0 (active_parts p of wrt x h).0))
+    (whole_all (declared_names p.decls) x (stmt_trees p.body) (clean_body p of wrt a).typed.kinds v))

@@ -108,11 +108,11 @@ loop_kinds t directive var first last step body h =
     let q = and_parts (is_well_kinded_head names var first last step) (has_scalar_privates names directive && are_well_kinded_statements names body) h in
     record { head = head_kinds names var first last step q.0; inside = (and_parts (has_scalar_privates names directive) (are_well_kinded_statements names body) q.1).1 }
 
-record LoopReadable (directive : Option Directive) (body : Statements) : Type 0 where
+pub record LoopReadable (directive : Option Directive) (body : Statements) : Type 0 where
   pub alone : not (is_parallel directive && has_parallel_in body) ≡ true
   pub inside : are_readable_statements body ≡ true
 
-loop_readable : (directive : Option Directive) (var : List ℕ) (first last : Expression) (step : Option Expression) (body : Statements)
+pub loop_readable : (directive : Option Directive) (var : List ℕ) (first last : Expression) (step : Option Expression) (body : Statements)
     → (is_readable_directive directive && (not (is_parallel directive && has_parallel_in body) && (is_variable var && (is_readable first && (is_readable last && (is_readable_step step && are_readable_statements body)))))) ≡ true → LoopReadable directive body
 loop_readable directive var first last step body h =
     let q = and_parts (is_readable_directive directive) (not (is_parallel directive && has_parallel_in body) && (is_variable var && (is_readable first && (is_readable last && (is_readable_step step && are_readable_statements body))))) h in
