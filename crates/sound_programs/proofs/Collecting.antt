@@ -21,12 +21,13 @@ use Rattle.fl_types.specs.Rows.{is_varying, is_private_name, is_own_in}
 use Rattle.reachability.specs.Reached.{IsAmong}
 use Rattle.adjoint_rules.specs.Needed.{Kinds, kinds_of, names_in}
 use Rattle.adjoint_rules.specs.Occurrences.{Occurrence, assignment_occurrences}
-use Rattle.adjoint_rules.specs.Scopes.{is_atomic, is_reduction, has_choice}
+use Rattle.adjoint_rules.specs.Scopes.{is_reduction, has_choice}
 use Rattle.adjoint_choices.specs.Choosing.{is_of, grows_by, grows, grows_in, grows_in_arms, is_scalar_name, has_a_choice, choice_of, chosen_for, choices_for, active_names, choices_of}
 use Rattle.adjoint_sets.specs.Names.{is_active}
+use Rattle.transposition.specs.Worlds.{is_one_step}
 use Rattle.typing.proofs.Faultless.{Clean, apart}
-use Rattle.sound_programs.specs.Uses.{is_own, choice_in, IsCollectable}
-use Rattle.sound_programs.specs.Accepted.{IsAccepted, MadeChoicesFit}
+use Rattle.sound_programs.specs.Uses.{is_own, is_shared, choice_in, IsCollectable, AreFitting}
+use Rattle.sound_programs.specs.Accepted.{IsAccepted, made_choices, ChoicesFit, MadeChoicesFit}
 use Rattle.sound_programs.proofs.Lists.{at_test, by_cases, never, fails, no_not, not_yes, or_to, same_name, Each, each_left, each_right}
 use Rattle.sound_programs.proofs.NameReads.{EachTerm, Parts, Increments, OfIncrement, increment_parts}
 use Rattle.sound_programs.proofs.Spreads.{EachPlace, places_of, rest_places}
@@ -184,12 +185,12 @@ is_for number x c = nat_eq c.loop_number number && (bytes_eq c.name x && is_redu
 
 chosen_reduction : (cs : List Chosen) (number : ℕ) (x : List ℕ) → is_reduction (choice_in cs number x) ≡ true → list_any (is_for number x) cs ≡ true
 chosen_reduction cs number x h =
-    at_test (λ b. is_reduction (if b then Reduction else (if has_choice is_atomic cs number x then Atomic else Shared)) ≡ true → b ≡ true) (has_choice is_reduction cs number x) (λ e g. refl)
-    (λ e g. absurd (not_atomic (has_choice is_atomic cs number x) g)) h
+    at_test (λ b. is_reduction (if b then Reduction else (if has_choice is_shared cs number x then Shared else Atomic)) ≡ true → b ≡ true) (has_choice is_reduction cs number x) (λ e g. refl)
+    (λ e g. absurd (not_collected (has_choice is_shared cs number x) g)) h
   where
-    not_atomic : (b : Bool) → is_reduction (if b then Atomic else Shared) ≡ true → ⊥
-    not_atomic true g = never false g refl
-    not_atomic false g = never false g refl
+    not_collected : (b : Bool) → is_reduction (if b then Shared else Atomic) ≡ true → ⊥
+    not_collected true g = never false g refl
+    not_collected false g = never false g refl
 
 -- what is known of a name that is chosen in a loop
 record IsChosen (decls : List Decl) (k : Kinds) (number : ℕ) (x : List ℕ) (l : ParallelLoop) : Type 0 where
@@ -232,8 +233,40 @@ chosen_loop p active number x h =
     some_in (is_for number x) (λ l. flat_map (choices_for p.decls (kinds_of p active) l) (active_names p.decls active)) (loops_of_all [] (stmt_trees p.body)) (λ l i g.
     some_in (is_for number x) (choices_for p.decls (kinds_of p active) l) (active_names p.decls active) (λ y j e. (l, i, is_chosen p.decls (kinds_of p active) number x l y e)) g) h
 
-pub choices_fit : MadeChoicesFit
-choices_fit p of wrt a l i x active h =
+-- none is Shared
+never_shared : (b : Bool) → is_shared (choice_of b) ≡ false
+never_shared true = refl
+never_shared false = refl
+
+-- a Shared choice for the name in the loop with the number
+abbrev is_shared_for : ℕ → List ℕ → Chosen → Bool
+is_shared_for number x c = nat_eq c.loop_number number && (bytes_eq c.name x && is_shared c.choice)
+
+unshared_at : (decls : List Decl) (k : Kinds) (number : ℕ) (x : List ℕ) (l : ParallelLoop) (y : List ℕ) → list_any (is_shared_for number x) (choices_for decls k l y) ≡ true → ⊥
+unshared_at decls k number x l y h =
+    at_test (λ b. list_any (is_shared_for number x) (if b then chosen_for decls l.number l.body y ∷ [] else []) ≡ true → ⊥) (has_a_choice (sharing_in l.var l.directive l.body y) && grows_in k y l.body)
+    (λ e i. found (or_to (is_shared_for number x (chosen_for decls l.number l.body y)) false (λ j. j) (λ j. never false j refl) i)) (λ e i. never false i refl) h
+  where
+    found : is_shared_for number x (chosen_for decls l.number l.body y) ≡ true → ⊥
+    found i =
+        let a = and_parts (nat_eq l.number number) (bytes_eq y x && is_shared (choice_of (is_scalar_name decls y && not (assigns_in y l.body)))) i in
+        let b = and_parts (bytes_eq y x) (is_shared (choice_of (is_scalar_name decls y && not (assigns_in y l.body)))) a.1 in
+        never (is_shared (choice_of (is_scalar_name decls y && not (assigns_in y l.body)))) b.1 (never_shared (is_scalar_name decls y && not (assigns_in y l.body)))
+
+unshared : (p : Program) (active : List ℕ → Bool) (number : ℕ) (x : List ℕ) → has_choice is_shared (choices_of p active) number x ≡ false
+unfolding choices_of
+unshared p active number x =
+    fails (has_choice is_shared (choices_of p active) number x) (λ h.
+    some_in (is_shared_for number x) (λ l. flat_map (choices_for p.decls (kinds_of p active) l) (active_names p.decls active)) (loops_of_all [] (stmt_trees p.body)) (λ l i g.
+    some_in (is_shared_for number x) (choices_for p.decls (kinds_of p active) l) (active_names p.decls active) (λ y j e. unshared_at p.decls (kinds_of p active) number x l y e) g) h)
+
+one_step : (r s : Bool) → s ≡ false → is_one_step (if r then Reduction else (if s then Shared else Atomic)) ≡ true
+one_step true s h = refl
+one_step false true h = never true refl h
+one_step false false h = refl
+
+made_fit : (p : Program) (of wrt : List (List ℕ)) → IsAccepted p of wrt → AreFitting p (is_active p of wrt) (made_choices p of wrt)
+made_fit p of wrt a l i x active h =
     let on = is_active p of wrt in
     let c = clean_body p of wrt a in
     let q = chosen_loop p on l.number x (chosen_reduction (choices_of p on) l.number x h) in
@@ -243,3 +276,9 @@ choices_fit p of wrt a l i x active h =
     let fixed = active_whole p of wrt a x active in
     let u = used_all p (kinds_of p on) s.around x l.body s.clean s.flat (fails (varies_in x l.body) (λ n. never (is_varying p x) (s.inner x n) fixed)) (fails (has_name x s.around.vars) (λ n. never (is_varying p x) (s.known x n) fixed)) k.grown in
     record { scalar = k.scalar; placed = unowned_by p l x fixed u.0 u.1 (subst (λ r. IsUsable p u.0 r x) s.region u.2) k.class; kept = k.kept }
+
+pub choices_fit : MadeChoicesFit
+choices_fit p of wrt a = record {
+  fitting = made_fit p of wrt a;
+  one_step = λ number x. one_step (has_choice is_reduction (choices_of p (is_active p of wrt)) number x) (has_choice is_shared (choices_of p (is_active p of wrt)) number x) (unshared p (is_active p of wrt) number x);
+}

@@ -19,7 +19,7 @@ use Rattle.meaning.specs.Programs.{entry_cells, run_of, adjoint_of}
 use Rattle.activity.specs.Active.{first_misfit}
 use Rattle.adjoint_choices.specs.Choosing.{choices_of}
 use Rattle.adjoint_sets.specs.Names.{is_active, is_needed}
-use Rattle.transposition.specs.Worlds.{World, name_at}
+use Rattle.transposition.specs.Worlds.{World, is_one_step, name_at}
 use Rattle.transposition.specs.Law.{Like, AreWords, SharedApart}
 use Rattle.transposition.specs.Calms.{PairwiseAll}
 use Rattle.transposition.specs.Sound.{SoundAll}
@@ -53,9 +53,17 @@ pub record NamesFit (p : Program) (of wrt : List (List ℕ)) : Type 0 where
 abbrev pub AskedNamesFit : Type 0
 AskedNamesFit = (p : Program) (of wrt : List (List ℕ)) → IsAccepted p of wrt → NamesFit p of wrt
 
--- the choices that are made where nothing is known of which iterations meet fit
+-- the choices that are made where nothing is known of which iterations meet
+abbrev pub made_choices : Program → (of wrt : List (List ℕ)) → ℕ → List ℕ → Choice
+made_choices p of wrt = choice_in (choices_of p (is_active p of wrt))
+
+-- fit, and none of them is Shared
+pub record ChoicesFit (p : Program) (of wrt : List (List ℕ)) : Type 0 where
+  pub fitting : AreFitting p (is_active p of wrt) (made_choices p of wrt)
+  pub one_step : (number : ℕ) (x : List ℕ) → is_one_step (made_choices p of wrt number x) ≡ true
+
 abbrev pub MadeChoicesFit : Type 0
-MadeChoicesFit = (p : Program) (of wrt : List (List ℕ)) → IsAccepted p of wrt → AreFitting p (is_active p of wrt) (choice_in (choices_of p (is_active p of wrt)))
+MadeChoicesFit = (p : Program) (of wrt : List (List ℕ)) → IsAccepted p of wrt → ChoicesFit p of wrt
 
 -- The run of an accepted program being stopped by nothing, its reverse part on the tape and the final values of the needed names leaves in
 -- the adjoint's cell of each place of an active name of `wrt` the adjoint of the program, for a seed on the names of `of` alone; that the
@@ -66,6 +74,18 @@ AcceptedIsTransposed =
     → let w = world_of_program p of wrt values choices in
     let s = entry_cells (program_tree p) (shapes_of p values) words in
     IsAccepted p of wrt → AreFitting p (is_active p of wrt) choices → PairwiseAll SharedApart (stmt_trees p.body) w (cells_along (unit j) s) → All (λ x. x < 2 ^ 64) words
+    → (run_of (program_tree p) (shapes_of p values) (is_needed p (is_active p of wrt)) s).out ≡ Ok s2 → first_stop by_conflict limits (events (run_of (program_tree p) (shapes_of p values) (is_needed p (is_active p of wrt)) s).log) ≡ at_end
+    → Like (outer_use p of wrt) w.site.keys vs s2 → length vs ≡ length w.site.keys → length seed ≡ length w.site.keys → AreWords seed → ((q : ℕ) → has_name (name_at w.site.keys q) of ≡ false → slice_index seed q ≡ 0)
+    → j < w.shared → content s j ≡ Some (Ring d) → has_name (name_at w.site.keys j) wrt ≡ true → is_active p of wrt (name_at w.site.keys j) ≡ true
+    → slice_index (reverse_run w (stmt_trees p.body) s vs seed).cells (w.shared + j) ≡ adjoint_of (program_tree p) (shapes_of p values) words seed j
+
+-- for the choices that are made nothing is to be shown of reads
+abbrev pub MadeIsTransposed : Type 0
+MadeIsTransposed =
+    (p : Program) (of wrt : List (List ℕ)) (values : List Entry) (limits : Limits) (words vs seed : List ℕ) (s2 : Cells) (j : ℕ) (d : Dual)
+    → let w = world_of_program p of wrt values (made_choices p of wrt) in
+    let s = entry_cells (program_tree p) (shapes_of p values) words in
+    IsAccepted p of wrt → All (λ x. x < 2 ^ 64) words
     → (run_of (program_tree p) (shapes_of p values) (is_needed p (is_active p of wrt)) s).out ≡ Ok s2 → first_stop by_conflict limits (events (run_of (program_tree p) (shapes_of p values) (is_needed p (is_active p of wrt)) s).log) ≡ at_end
     → Like (outer_use p of wrt) w.site.keys vs s2 → length vs ≡ length w.site.keys → length seed ≡ length w.site.keys → AreWords seed → ((q : ℕ) → has_name (name_at w.site.keys q) of ≡ false → slice_index seed q ≡ 0)
     → j < w.shared → content s j ≡ Some (Ring d) → has_name (name_at w.site.keys j) wrt ≡ true → is_active p of wrt (name_at w.site.keys j) ≡ true

@@ -10,7 +10,7 @@ use Rattle.fl_types.specs.Sharing.{has_name, assigns_in, ParallelLoop, loops_of_
 use Rattle.store_core.specs.Scopes.{scopes_in}
 use Rattle.reachability.specs.Reached.{IsAmong}
 use Rattle.activity.specs.Active.{program_flows, turned}
-use Rattle.adjoint_rules.specs.Scopes.{is_atomic, is_reduction, has_choice}
+use Rattle.adjoint_rules.specs.Scopes.{is_reduction, has_choice}
 use Rattle.adjoint_choices.specs.Choosing.{is_scalar_name}
 use Rattle.adjoint_sets.specs.Reach.{is_reached_name}
 use Rattle.adjoint_sets.specs.Names.{is_active, is_needed}
@@ -54,6 +54,12 @@ abbrev pub AreFitting : Program → (active : List ℕ → Bool) → (ℕ → Li
 AreFitting p active choices =
     (l : ParallelLoop) → IsAmong (loops_of_all [] (stmt_trees p.body)) l → (x : List ℕ) → active x ≡ true → is_reduction (choices l.number x) ≡ true → IsCollectable p l x
 
--- the choice for a name in the loop with a number, Shared where none is made
+abbrev pub is_shared : Choice → Bool
+is_shared Shared = true
+is_shared Atomic = false
+is_shared Reduction = false
+
+-- The choice for a name in the loop with a number. Where none is made, none of the increments of the name's adjoint is on a cell that
+-- iterations share, so that one step is as good as two.
 abbrev pub choice_in : List Chosen → ℕ → List ℕ → Choice
-choice_in choices number x = if has_choice is_reduction choices number x then Reduction else if has_choice is_atomic choices number x then Atomic else Shared
+choice_in choices number x = if has_choice is_reduction choices number x then Reduction else if has_choice is_shared choices number x then Shared else Atomic
