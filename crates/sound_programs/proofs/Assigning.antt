@@ -1,13 +1,11 @@
 -- What the law asks of assignments holds of those of an accepted program.
-use Rattle.std.proofs.Common.{◌≡◌, inl, inr, ℕ, Bool, true, false, not, ◌&&◌, ◌||◌, if◌then◌else◌, bytes_eq, List, [], ◌∷◌, ◌++◌, flat_map, map, Option, Some, None, refl, ap, sym, subst, ◌∙◌}
+use Rattle.std.proofs.Common.{◌≡◌, ℕ, Bool, true, false, ◌&&◌, if◌then◌else◌, List, [], ◌∷◌, ◌++◌, flat_map, map, Option, Some, None, sym, subst, ◌∙◌}
 use Rattle.std.proofs.lemmas.Bool.{and_parts}
-use Rattle.fl_ast.specs.declared.kind.BinOp.{BinOp}
-use Rattle.fl_ast.specs.declared.kind.Kind.{Kind}
 use Rattle.fl_ast.specs.declared.kind.Kind.TheVariants.{Index, Ring}
-use Rattle.fl_ast.specs.Tree.{Expression, literal, get, minus, binary, power, call, Expressions, no_expressions, expression, Designator, Statement, assignment}
+use Rattle.fl_ast.specs.Tree.{Expression, literal, get, minus, binary, power, call, Expressions, no_expressions, expression, Designator, assignment}
 use Rattle.fl_types.specs.declared.choice.Choice.{Choice}
 use Rattle.fl_types.specs.Increment.{Signed, target_of, increment_terms}
-use Rattle.fl_types.specs.Kinds.{Names, kind_of_name, kind_of_expression, is_index_kind, takes_operands, takes_value, is_well_kinded, is_well_kinded_assignment, declared_names}
+use Rattle.fl_types.specs.Kinds.{kind_of_name, kind_of_expression, takes_operands, takes_value, is_well_kinded, is_well_kinded_assignment, declared_names}
 use Rattle.fl_types.specs.Sharing.{is_ring_name}
 use Rattle.fl_types.specs.Supported.{is_declared}
 use Rattle.fl_types.specs.Mentions.{Region}
@@ -15,19 +13,17 @@ use Rattle.reachability.specs.Reached.{Edge, IsAmong}
 use Rattle.activity.specs.Active.{edge_to, flows_to}
 use Rattle.adjoint_rules.specs.Occurrences as rules
 use Rattle.adjoint_rules.specs.Needed.{names_in, names_in_all, names_in_terms, names_in_occurrence, edge_from, rest_names}
-use Rattle.transposition.specs.Spread as law
-use Rattle.transposition.specs.Back.{rest_occurrences}
 use Rattle.transposition.specs.Worlds.{is_reduction}
 use Rattle.transposition.specs.Law.{Use}
 use Rattle.transposition.specs.Needs.{NeedsEach, Quiet, QuietAll, Kinded}
-use Rattle.transposition.specs.Sound.{NeedsTerms, QuietTerms, KindedTerms, Whole, WholeAll, Unmoved, UnmovedTerms, SoundTarget, SoundPlain, SoundIncrement, SoundStore, SoundAssigned}
+use Rattle.transposition.specs.Sound.{QuietTerms, KindedTerms, Whole, WholeAll, Unmoved, UnmovedTerms, SoundTarget, SoundPlain, SoundIncrement, SoundStore, SoundAssigned}
 use Rattle.transposition.specs.Typed.{TypedExpression}
 use Rattle.transposition.proofs.WellKinded.{typed_by_kinds}
 use Rattle.sound_programs.proofs.Lists.{in_left, in_right, in_map, never, fails, by_cases, itself, other_way, Each, each_both, each_left, each_right}
 use Rattle.sound_programs.proofs.NameReads.{needs_all, needs_terms, all_absent, quiet_of, EachTerm, Parts, Increments, OfIncrement, increment_parts}
-use Rattle.sound_programs.proofs.Spreads.{law_occurrence, same_occurrences, same_rest, needs_each, places_of, rest_places, reads_of, rest_reads}
-use Rattle.sound_programs.proofs.Mentioned.{IsUsable, IsUsed, IsTarget, IsCleanAssignment}
-use Rattle.sound_programs.proofs.Setups.{Setup, decls_in, kinds_in, Facts, Part, PartOne, Scene, seen, shown, target_usable, world_at, use_at}
+use Rattle.sound_programs.proofs.Spreads.{same_occurrences, same_rest, needs_each, places_of, rest_places, reads_of, rest_reads}
+use Rattle.sound_programs.proofs.Mentioned.{IsUsable, IsCleanAssignment}
+use Rattle.sound_programs.proofs.Setups.{Setup, decls_in, Facts, PartOne, Scene, seen, shown, target_usable, world_at, use_at}
 
 -- ---- the index kind
 

@@ -1,20 +1,18 @@
 -- The choices that are made where nothing is known of which iterations meet fit: an adjoint that is collected is that of a scalar with a place.
-use Rattle.std.proofs.Common.{◌≡◌, inl, inr, ℕ, suc, Bool, true, false, not, ◌&&◌, ◌||◌, if◌then◌else◌, bytes_eq, nat_eq, List, [], ◌∷◌, ◌++◌, flat_map, map, length, Option, Some, None, refl, ap, sym, subst, ◌∙◌, arith}
-use Rattle.std.specs.List.{list_any, list_all}
+use Rattle.std.proofs.Common.{◌≡◌, inl, inr, ℕ, Bool, true, false, not, ◌&&◌, ◌||◌, if◌then◌else◌, bytes_eq, nat_eq, List, [], ◌∷◌, ◌++◌, flat_map, Option, Some, None, refl, sym, subst, ◌∙◌, arith}
+use Rattle.std.specs.List.{list_any}
 use Rattle.std.proofs.lemmas.Bool.{and_parts, or_parts, or_from, or_left, or_right}
 use Rattle.std.proofs.lemmas.Bool.Decides.{nat_tests}
 use Rattle.std.proofs.lemmas.List.Folds.{list_any-append}
 use Rattle.fl_ast.specs.declared.decl.Decl.{Decl}
-use Rattle.fl_ast.specs.declared.directive.Directive.{Directive}
 use Rattle.fl_ast.specs.declared.stmt.Program.{Program}
 use Rattle.fl_ast.specs.Readable.{has_arm, has_parallel, has_parallel_in, has_parallel_in_arms, is_readable_condition, is_readable_statement, are_readable_statements, are_readable_arms}
-use Rattle.fl_ast.specs.Tree.{Expression, Designator, Statement, assignment, branch, loop, Statements, no_statements, statement, Arms, no_arms, arm, stmt_trees}
-use Rattle.fl_types.specs.declared.choice.Choice.{Choice}
+use Rattle.fl_ast.specs.Tree.{Expression, Statement, assignment, branch, loop, Statements, no_statements, statement, Arms, no_arms, arm, stmt_trees}
 use Rattle.fl_types.specs.declared.choice.Choice.TheVariants.{Shared, Atomic, Reduction}
 use Rattle.fl_types.specs.declared.choice.Chosen.{Chosen}
 use Rattle.fl_types.specs.declared.sharing.Sharing.TheVariants as class
 use Rattle.fl_types.specs.Increment.{Signed, increment_terms}
-use Rattle.fl_types.specs.Sharing.{has_name, is_ring_name, varies, varies_in, varies_in_arms, assigns_in, sharing_in, ParallelLoop, loops_of, loops_of_all, loops_of_arms}
+use Rattle.fl_types.specs.Sharing.{has_name, varies, varies_in, varies_in_arms, assigns_in, sharing_in, ParallelLoop, loops_of, loops_of_all, loops_of_arms}
 use Rattle.fl_types.specs.Mentions as m
 use Rattle.fl_types.specs.Mentions.{Region, Surroundings}
 use Rattle.fl_types.specs.Rows.{is_varying, is_private_name, is_own_in}
@@ -22,23 +20,22 @@ use Rattle.reachability.specs.Reached.{IsAmong}
 use Rattle.adjoint_rules.specs.Needed.{Kinds, kinds_of, names_in}
 use Rattle.adjoint_rules.specs.Occurrences.{Occurrence, assignment_occurrences}
 use Rattle.adjoint_rules.specs.Scopes.{is_reduction, has_choice}
-use Rattle.adjoint_choices.specs.Choosing.{is_of, grows_by, grows, grows_in, grows_in_arms, is_scalar_name, has_a_choice, choice_of, chosen_for, choices_for, active_names, choices_of}
+use Rattle.adjoint_choices.specs.Choosing.{is_of, grows, grows_in, grows_in_arms, is_scalar_name, has_a_choice, choice_of, chosen_for, choices_for, active_names, choices_of}
 use Rattle.adjoint_sets.specs.Names.{is_active}
 use Rattle.transposition.specs.Worlds.{is_one_step}
 use Rattle.typing.proofs.Faultless.{Clean, apart}
-use Rattle.sound_programs.specs.Uses.{is_own, is_shared, choice_in, IsCollectable, AreFitting}
-use Rattle.sound_programs.specs.Accepted.{IsAccepted, made_choices, ChoicesFit, MadeChoicesFit}
-use Rattle.sound_programs.proofs.Lists.{at_test, by_cases, never, fails, no_not, not_yes, or_to, same_name, Each, each_left, each_right}
-use Rattle.sound_programs.proofs.NameReads.{EachTerm, Parts, Increments, OfIncrement, increment_parts}
+use Rattle.sound_programs.specs.Uses.{is_own, is_shared, choice_in, AreFitting}
+use Rattle.sound_programs.specs.Accepted.{IsAccepted, made_choices, MadeChoicesFit, ParallelLoopsFit}
+use Rattle.sound_programs.proofs.Lists.{at_test, never, fails, no_not, not_yes, or_to, same_name, Each, each_left, each_right}
+use Rattle.sound_programs.proofs.NameReads.{Parts, OfIncrement, increment_parts}
 use Rattle.sound_programs.proofs.Spreads.{EachPlace, places_of, rest_places}
-use Rattle.sound_programs.proofs.Mentioned.{IsUsable, IsVariable, assignment_clean}
+use Rattle.sound_programs.proofs.Mentioned.{IsUsable, assignment_clean}
 use Rattle.sound_programs.proofs.Setups.{private_all}
-use Rattle.sound_programs.proofs.Trees.{loop_clean}
+use Rattle.sound_programs.proofs.Trees.{loop_clean, flat_all}
 use Rattle.sound_programs.proofs.Assigning.{term_names}
 use Rattle.sound_programs.proofs.Stating.{loop_readable}
 use Rattle.sound_programs.proofs.LoopNumbers.{either_among, one_loop}
-use Rattle.sound_programs.proofs.PlacedNames.{IsCleanBody}
-use Rattle.sound_programs.proofs.Programs.{clean_body, active_whole}
+use Rattle.sound_programs.proofs.Programs.{body_clean, clean_body, active_whole}
 
 -- ---- where a loop stands
 
@@ -120,9 +117,12 @@ mutual
   used_one : (p : Program) (k : Kinds) (s : Surroundings) (x : List ℕ) (a : Statement) → Clean p (m.in_statement s a) → has_parallel a ≡ false → varies x a ≡ false → has_name x s.vars ≡ false → grows k x a ≡ true → (vars : List (List ℕ)) × (has_name x vars ≡ false) × IsUsable p vars s.parallel x
   used_one p k s x (assignment line atomic t e) c f v n g =
       let q = and_parts (k.active t.name) (list_any (is_of x) (assignment_occurrences k.active e (increment_terms k.ring t e))) g in
-      let uses : Each (IsUsable p s.vars s.parallel) (names_in e) = (λ y i. ((assignment_clean p s line atomic t e c).value y i).usable) in
-      (s.vars, n, some_place (IsUsable p s.vars s.parallel) x (assignment_occurrences k.active e (increment_terms k.ring t e))
-      (assigned_places (IsUsable p s.vars s.parallel) k.active k.ring t.name e (increment_terms k.ring t e) uses (increment_parts (λ a. Each (IsUsable p s.vars s.parallel) (names_in a)) (names_parts (IsUsable p s.vars s.parallel)) k.ring t e uses)) q.1)
+      let uses : Each (IsUsable p s.vars s.parallel) (names_in e) = (λ y i. ((assignment_clean p s line atomic t e c).value y i).usable) in (
+        s.vars,
+        n,
+        some_place (IsUsable p s.vars s.parallel) x (assignment_occurrences k.active e (increment_terms k.ring t e))
+            (assigned_places (IsUsable p s.vars s.parallel) k.active k.ring t.name e (increment_terms k.ring t e) uses (increment_parts (λ a. Each (IsUsable p s.vars s.parallel) (names_in a)) (names_parts (IsUsable p s.vars s.parallel)) k.ring t e uses)) q.1,
+      )
   used_one p k s x (branch line arms other) c f v n g =
       let q = apart p (m.in_arms s line arms) (m.in_statements s other) c in
       let h = or_parts (has_parallel_in_arms arms) (has_parallel_in other) f in
@@ -281,4 +281,12 @@ pub choices_fit : MadeChoicesFit
 choices_fit p of wrt a = record {
   fitting = made_fit p of wrt a;
   one_step = λ number x. one_step (has_choice is_reduction (choices_of p (is_active p of wrt)) number x) (has_choice is_shared (choices_of p (is_active p of wrt)) number x) (unshared p (is_active p of wrt) number x);
+}
+
+-- ---- parallel loops
+
+pub loops_fit : ParallelLoopsFit
+loops_fit p r t = record {
+  flat = λ l i. flat_all l.body (stands_all p (m.at_unit p.line) (stmt_trees p.body) (body_clean p r t).clean r.body (λ y n. never false n refl) (λ y n. n) l i).flat;
+  one = λ l k. one_loop (stmt_trees p.body) l k r.numbered;
 }

@@ -9,12 +9,12 @@ use Rattle.fl_ast.specs.declared.decl.Decl.{Decl}
 use Rattle.fl_types.specs.Sharing.{has_name}
 use Rattle.fl_types.specs.Supported.{all_apart}
 use Rattle.store_core.specs.declared.layout.Shape.{Shape}
-use Rattle.store_core.specs.Keys.{subscripts_of, keys_of_shape, keys_of, same_key, first_at, laid, laid_all, scalar, with_scalars}
-use Rattle.store_core.specs.Places.{is_empty}
+use Rattle.store_core.specs.Keys.{subscripts_of, keys_of_shape, keys_of, same_key, first_at, laid_all, scalar, with_scalars}
 use Rattle.meaning.specs.Sites.{Key}
 use Rattle.transposition.specs.Worlds.{name_at}
 use Rattle.transposition.proofs.Keys.{name_later}
-use Rattle.sound_programs.proofs.Lists.{at_test, never, not_yes, by_cases, or_to, fails, same_name, itself, other_way}
+use Rattle.sound_programs.specs.Accepted.{HasOnePlace}
+use Rattle.sound_programs.proofs.Lists.{at_test, never, not_yes, by_cases, or_to, fails, same_name, itself}
 
 abbrev pub is_laid : List ℕ → List Shape → Bool
 is_laid x es = list_any (λ (e : Shape). bytes_eq x e.name) es
@@ -33,8 +33,8 @@ extra_keys (d ∷ ds) es =
     at_test (λ b. keys_of (laid_all (cond b es (es ++ scalar d.name ∷ [])) (map (λ (e : Decl). scalar e.name) ds)) ≡ keys_of es ++ map plain_key (cond b (extra es ds) (d.name ∷ extra (es ++ scalar d.name ∷ []) ds))) (is_laid d.name es)
     (λ e. extra_keys ds es)
     (λ e.
-        extra_keys ds (es ++ scalar d.name ∷ [])
-        ∙ (ap (λ l. l ++ map plain_key (extra (es ++ scalar d.name ∷ []) ds)) (flat_map-append keys_of_shape es (scalar d.name ∷ [])) ∙ append_assoc (keys_of es) (plain_key d.name ∷ []) (map plain_key (extra (es ++ scalar d.name ∷ []) ds))))
+    extra_keys ds (es ++ scalar d.name ∷ [])
+    ∙ (ap (λ l. l ++ map plain_key (extra (es ++ scalar d.name ∷ []) ds)) (flat_map-append keys_of_shape es (scalar d.name ∷ [])) ∙ append_assoc (keys_of es) (plain_key d.name ∷ []) (map plain_key (extra (es ++ scalar d.name ∷ []) ds))))
 
 laid_more : (x y : List ℕ) (es : List Shape) → is_laid x (es ++ scalar y ∷ []) ≡ (is_laid x es || (bytes_eq x y || false))
 laid_more x y es = list_any-append (λ (e : Shape). bytes_eq x e.name) es (scalar y ∷ [])
@@ -46,10 +46,10 @@ in_extra x (d ∷ ds) es f h =
     at_test (λ b. has_name x (cond b (extra es ds) (d.name ∷ extra (es ++ scalar d.name ∷ []) ds)) ≡ true) (is_laid d.name es)
     (λ e. or_to (bytes_eq x d.name) (list_any (λ (g : Decl). bytes_eq x g.name) ds) (λ k. never (is_laid x es) (ap (λ y. is_laid y es) (same_name x d.name k) ∙ e) f) (λ k. in_extra x ds es f k) h)
     (λ e.
-        by_cases (bytes_eq x d.name) (λ k. or_left (bytes_eq x d.name) (has_name x (extra (es ++ scalar d.name ∷ []) ds)) k)
-        (λ k. or_right (bytes_eq x d.name) (has_name x (extra (es ++ scalar d.name ∷ []) ds))
-        (in_extra x ds (es ++ scalar d.name ∷ []) (laid_more x d.name es ∙ or_from (is_laid x es) (bytes_eq x d.name || false) f (or_from (bytes_eq x d.name) false k refl))
-        (or_to (bytes_eq x d.name) (list_any (λ (g : Decl). bytes_eq x g.name) ds) (λ g. never (bytes_eq x d.name) g k) (λ g. g) h))))
+    by_cases (bytes_eq x d.name) (λ k. or_left (bytes_eq x d.name) (has_name x (extra (es ++ scalar d.name ∷ []) ds)) k)
+    (λ k. or_right (bytes_eq x d.name) (has_name x (extra (es ++ scalar d.name ∷ []) ds))
+    (in_extra x ds (es ++ scalar d.name ∷ []) (laid_more x d.name es ∙ or_from (is_laid x es) (bytes_eq x d.name || false) f (or_from (bytes_eq x d.name) false k refl))
+    (or_to (bytes_eq x d.name) (list_any (λ (g : Decl). bytes_eq x g.name) ds) (λ g. never (bytes_eq x d.name) g k) (λ g. g) h))))
 
 -- and these have none
 pub out_of_layout : (x : List ℕ) (ds : List Decl) (es : List Shape) → has_name x (extra es ds) ≡ true → (is_laid x es ≡ false) × (list_any (λ (d : Decl). bytes_eq x d.name) ds ≡ true)
@@ -58,9 +58,9 @@ out_of_layout x (d ∷ ds) es h =
     at_test (λ b. has_name x (cond b (extra es ds) (d.name ∷ extra (es ++ scalar d.name ∷ []) ds)) ≡ true → Out) (is_laid d.name es)
     (λ e k. later (out_of_layout x ds es k))
     (λ e k.
-        or_to (bytes_eq x d.name) (has_name x (extra (es ++ scalar d.name ∷ []) ds))
-        (λ g. (ap (λ y. is_laid y es) (same_name x d.name g) ∙ e, or_left (bytes_eq x d.name) (list_any (λ (g : Decl). bytes_eq x g.name) ds) g))
-        (λ g. let r = out_of_layout x ds (es ++ scalar d.name ∷ []) g in later ((or_parts (is_laid x es) (bytes_eq x d.name || false) (sym (laid_more x d.name es) ∙ r.0)).0, r.1)) k) h
+    or_to (bytes_eq x d.name) (has_name x (extra (es ++ scalar d.name ∷ []) ds))
+    (λ g. (ap (λ y. is_laid y es) (same_name x d.name g) ∙ e, or_left (bytes_eq x d.name) (list_any (λ (g : Decl). bytes_eq x g.name) ds) g))
+    (λ g. let r = out_of_layout x ds (es ++ scalar d.name ∷ []) g in later ((or_parts (is_laid x es) (bytes_eq x d.name || false) (sym (laid_more x d.name es) ∙ r.0)).0, r.1)) k) h
   where
     Out : Type 0
     Out = (is_laid x es ≡ false) × ((bytes_eq x d.name || list_any (λ (g : Decl). bytes_eq x g.name) ds) ≡ true)
@@ -81,13 +81,6 @@ extra_apart (d ∷ ds) es =
         never (bytes_eq d.name d.name) (itself d.name) (or_parts (bytes_eq d.name d.name) false k.1).0)
 
 -- ---- where a name stands alone
-
--- the one place of a scalar, from n on
-pub record Standing (keys : List Key) (n : ℕ) (x : List ℕ) : Type 0 where
-  pub q : ℕ
-  pub place : first_at (same_key (x, [])) keys ≡ Some q
-  pub only : (p : ℕ) → name_at keys p ≡ x → p ≡ q
-  pub own : n ≤ q
 
 -- a name at a place of the list, or none
 pub named_at : (xs : List (List ℕ)) (p : ℕ) → (name_at (map plain_key xs) p ≡ []) ⊎ (has_name (name_at (map plain_key xs) p) xs ≡ true)
@@ -111,7 +104,7 @@ no_key_here : (x : List ℕ) (k : Key) → bytes_eq x k.0 ≡ false → same_key
 no_key_here x k h = Rattle.std.proofs.lemmas.Bool.and_left (bytes_eq x k.0) _ h
 
 -- behind a key of another name
-behind : (k : Key) (keys : List Key) (n : ℕ) (x : List ℕ) → bytes_eq x k.0 ≡ false → Standing keys n x → Standing (k ∷ keys) (suc n) x
+behind : (k : Key) (keys : List Key) (n : ℕ) (x : List ℕ) → bytes_eq x k.0 ≡ false → HasOnePlace keys n x → HasOnePlace (k ∷ keys) (suc n) x
 behind k keys n x f s = record { q = suc s.q; place = next_place (same_key (x, []) k) keys x s.q (no_key_here x k f) s.place; only = only; own = (let h : n ≤ s.q = s.own in omega arith) }
   where
     only : (p : ℕ) → name_at (k ∷ keys) p ≡ x → p ≡ suc s.q
@@ -122,14 +115,14 @@ first_place : (b : Bool) (o : Option ℕ) → b ≡ true → cond b (Some 0) o �
 first_place true o e = refl
 first_place false o e = never false e refl
 
-own_place : (x : List ℕ) (xs : List (List ℕ)) → (x ≡ [] → ⊥) → all_apart xs ≡ true → has_name x xs ≡ true → Standing (map plain_key xs) 0 x
+own_place : (x : List ℕ) (xs : List (List ℕ)) → (x ≡ [] → ⊥) → all_apart xs ≡ true → has_name x xs ≡ true → HasOnePlace (map plain_key xs) 0 x
 own_place x [] solid a h = never false h refl
 own_place x (y ∷ ys) solid a h = by_cases (bytes_eq x y) here (λ e. later e (own_place x ys solid parts.1 (or_to (bytes_eq x y) (has_name x ys) (λ g. never (bytes_eq x y) g e) (λ g. g) h)))
   where
     parts : (not (has_name y ys) ≡ true) × (all_apart ys ≡ true)
     parts = Rattle.std.proofs.lemmas.Bool.and_parts (not (has_name y ys)) (all_apart ys) a
 
-    here : bytes_eq x y ≡ true → Standing (plain_key y ∷ map plain_key ys) 0 x
+    here : bytes_eq x y ≡ true → HasOnePlace (plain_key y ∷ map plain_key ys) 0 x
     here e = record { q = 0; place = first_place (bytes_eq x y && true) _ (and_from (bytes_eq x y) true e refl); only = only; own = (omega arith) }
       where
         only : (p : ℕ) → name_at (plain_key y ∷ map plain_key ys) p ≡ x → p ≡ 0
@@ -143,10 +136,10 @@ own_place x (y ∷ ys) solid a h = by_cases (bytes_eq x y) here (λ e. later e (
             by_name (inl k) = solid (sym later_name ∙ k)
             by_name (inr k) = never (has_name y ys) (ap (λ z. has_name z ys) (sym (same_name x y e)) ∙ (ap (λ z. has_name z ys) (sym later_name) ∙ k)) (not_yes (has_name y ys) parts.0)
 
-    later : bytes_eq x y ≡ false → Standing (map plain_key ys) 0 x → Standing (plain_key y ∷ map plain_key ys) 0 x
+    later : bytes_eq x y ≡ false → HasOnePlace (map plain_key ys) 0 x → HasOnePlace (plain_key y ∷ map plain_key ys) 0 x
     later e t = let s = behind (plain_key y) (map plain_key ys) 0 x e t in record { q = s.q; place = s.place; only = s.only; own = (omega arith) }
 
-pub stands_behind : (x : List ℕ) (ks keys : List Key) → list_any (λ (k : Key). bytes_eq x k.0) ks ≡ false → Standing keys 0 x → Standing (ks ++ keys) (length ks) x
+pub stands_behind : (x : List ℕ) (ks keys : List Key) → list_any (λ (k : Key). bytes_eq x k.0) ks ≡ false → HasOnePlace keys 0 x → HasOnePlace (ks ++ keys) (length ks) x
 stands_behind x [] keys f s = s
 stands_behind x (k ∷ ks) keys f s =
     let r = or_parts (bytes_eq x k.0) (list_any (λ (g : Key). bytes_eq x g.0) ks) f in
@@ -193,9 +186,9 @@ high_name (k ∷ ks) xs (suc q) h = moved (high_name ks xs q (omega arith))
 
 -- ---- in a layout with the scalars behind it
 
-pub own_standing : (x : List ℕ) (ds : List Decl) (es : List Shape) → (x ≡ [] → ⊥) → is_laid x es ≡ false → list_any (λ (d : Decl). bytes_eq x d.name) ds ≡ true → Standing (keys_of (with_scalars es ds)) (length (keys_of es)) x
+pub own_standing : (x : List ℕ) (ds : List Decl) (es : List Shape) → (x ≡ [] → ⊥) → is_laid x es ≡ false → list_any (λ (d : Decl). bytes_eq x d.name) ds ≡ true → HasOnePlace (keys_of (with_scalars es ds)) (length (keys_of es)) x
 own_standing x ds es solid f h =
-    subst (λ keys. Standing keys (length (keys_of es)) x) (sym (extra_keys ds es))
+    subst (λ keys. HasOnePlace keys (length (keys_of es)) x) (sym (extra_keys ds es))
     (stands_behind x (keys_of es) (map plain_key (extra es ds)) (no_key x es f) (own_place x (extra es ds) solid (extra_apart ds es) (in_extra x ds es f h)))
 
 pub low_name : (ds : List Decl) (es : List Shape) (q : ℕ) → q < length (keys_of es) → is_laid (name_at (keys_of (with_scalars es ds)) q) es ≡ true

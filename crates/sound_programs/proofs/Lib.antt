@@ -14,3 +14,4 @@ pub mod Programs
 pub mod Transposing
 pub mod LoopNumbers
 pub mod Collecting
+mod Examples

@@ -1,19 +1,19 @@
 -- What a tree reads is needed where each of its names is.
-use Rattle.std.proofs.Common.{◌≡◌, inl, inr, ℕ, Bool, true, false, not, ◌&&◌, ◌||◌, if◌then◌else◌, bytes_eq, List, [], ◌∷◌, ◌++◌, Option, Some, None, refl, ap, sym, ◌∙◌}
-use Rattle.std.proofs.lemmas.Bool.{and_parts, or_from}
+use Rattle.std.proofs.Common.{◌≡◌, inl, inr, ℕ, Bool, true, false, if◌then◌else◌, bytes_eq, List, [], ◌∷◌, ◌++◌, Option, Some, None, refl}
+use Rattle.std.proofs.lemmas.Bool.{or_from}
 use Rattle.fl_ast.specs.declared.kind.BinOp.{BinOp}
 use Rattle.fl_ast.specs.declared.kind.BinOp.TheVariants as op
 use Rattle.fl_ast.specs.Tree.{Expression, literal, get, minus, binary, power, call, Expressions, no_expressions, expression, Designator, Condition, relation, negation, conjunction, disjunction}
 use Rattle.fl_ast.specs.Same.{same_expression}
 use Rattle.fl_ast.specs.Occurs.{occurs, occurs_in_any}
 use Rattle.fl_types.specs.Increment.{Signed, longer, chain, first_of_sum, are_free_of, if_free, either, target_of, rest_terms, increment_terms}
-use Rattle.reachability.specs.Reached.{Edge, IsAmong}
+use Rattle.reachability.specs.Reached.{IsAmong}
 use Rattle.activity.specs.Active.{edge_to, flows_to, all_flow_to}
 use Rattle.adjoint_rules.specs.Needed.{names_in, names_in_all, names_in_condition, names_in_terms}
 use Rattle.transposition.specs.Law.{Use}
 use Rattle.transposition.specs.Needs.{Needs, NeedsAll, NeedsCondition, Quiet, QuietAll}
 use Rattle.transposition.specs.Sound.{NeedsTerms}
-use Rattle.sound_programs.proofs.Lists.{in_left, in_right, never, by_cases}
+use Rattle.sound_programs.proofs.Lists.{in_left, in_right}
 
 -- ---- reads
 

@@ -1,17 +1,16 @@
 -- Which names of a program have places in its layout: those that no loop has as its variable or lists as private.
-use Rattle.std.proofs.Common.{◌≡◌, ◌⊎◌, inl, inr, ℕ, zero, suc, ◌<◌, ◌≤◌, Bool, true, false, not, ◌&&◌, ◌||◌, cond, bytes_eq, List, [], ◌∷◌, ◌++◌, map, length, find, Option, Some, None, refl, ap, sym, subst, ◌∙◌, append_assoc, arith}
+use Rattle.std.proofs.Common.{◌≡◌, inl, inr, ℕ, suc, ◌<◌, Bool, true, false, not, ◌&&◌, ◌||◌, cond, bytes_eq, List, [], ◌∷◌, ◌++◌, map, length, find, Option, Some, None, refl, ap, sym, subst, ◌∙◌, arith}
 use Rattle.std.specs.Prelude.{ℤ, option_map}
 use Rattle.std.specs.List.{list_any, list_all, filter_map}
 use Rattle.std.proofs.lemmas.Bool.{or_parts, or_from, or_left, or_right, and_from, and_parts}
 use Rattle.std.proofs.lemmas.List.Folds.{list_any-append}
-use Rattle.fl_ast.specs.declared.directive.Directive.{Directive}
 use Rattle.fl_ast.specs.declared.decl.Dim.{Dim}
 use Rattle.fl_ast.specs.declared.decl.Decl.{Decl}
 use Rattle.fl_ast.specs.declared.stmt.Program.{Program}
 use Rattle.fl_ast.specs.Tree.{Statement, assignment, branch, loop, Statements, no_statements, statement, Arms, no_arms, arm, stmt_trees}
 use Rattle.fl_types.specs.Sharing.{has_name, varies, varies_in, varies_in_arms, ParallelLoop, loops_of, loops_of_all, loops_of_arms}
 use Rattle.fl_types.specs.Supported.{is_declared, is_scalar}
-use Rattle.fl_types.specs.WellTyped.{are_declared_once, is_argument_if_array, is_local_scalar, is_index_declared, is_scalar_declared, has_fair_clauses, IsTyped}
+use Rattle.fl_types.specs.WellTyped.{are_declared_once, is_argument_if_array, is_local_scalar, is_index_declared, has_fair_clauses, IsTyped}
 use Rattle.fl_types.specs.Mentions.{in_statements, at_unit}
 use Rattle.store_core.specs.declared.bound.Axis.{Axis}
 use Rattle.store_core.specs.declared.layout.Shape.{Shape}
@@ -19,7 +18,7 @@ use Rattle.store_core.specs.declared.values.Entry.{Entry}
 use Rattle.store_core.specs.Values.{value_in}
 use Rattle.store_core.specs.Bounds.{axis_of, shape_of}
 use Rattle.store_core.specs.Keys.{keys_of_shape, keys_of, same_key, first_at, laid, laid_all, with_scalars}
-use Rattle.store_core.specs.Scopes.{is_listed_private, scopes, scopes_in, scopes_in_arms}
+use Rattle.store_core.specs.Scopes.{scopes, scopes_in, scopes_in_arms}
 use Rattle.store_core.specs.Places.{declaration_of, is_empty, is_local, local_of, placed, shapes_of}
 use Rattle.store_core.proofs.Scalars.{no_axes}
 use Rattle.meaning.specs.Sites.{Key}
@@ -27,8 +26,8 @@ use Rattle.reachability.specs.Reached.{IsAmong}
 use Rattle.adjoint_choices.specs.Choosing.{is_scalar_name}
 use Rattle.typing.proofs.Faultless.{Clean}
 use Rattle.typing.proofs.Sound.{local_if_all}
-use Rattle.transposition.specs.Worlds.{name_at}
-use Rattle.sound_programs.proofs.Lists.{at_test, never, no_not, not_yes, by_cases, or_to, fails, same_name, itself, turned_test, has_in}
+use Rattle.sound_programs.specs.Accepted.{HasPlace}
+use Rattle.sound_programs.proofs.Lists.{at_test, never, not_yes, by_cases, or_to, fails, same_name, itself, turned_test, has_in}
 use Rattle.sound_programs.proofs.Layouts.{is_laid, plain_key, extra, extra_keys}
 
 -- ---- names of layouts
@@ -220,10 +219,10 @@ laid_unscoped p t values x h =
     by_local y d i e k =
         at_test (λ b. is_local p y ≡ b → cond b (Some y) None ≡ Some d → scopes_in x (body_of p) ≡ false) (is_local p y)
         (λ g l f.
-            let j : y ≡ d = cc in
-            let a = and_parts (is_empty y.dims) _ l in
-            let b = and_parts (not (list_any (λ name. bytes_eq y.name name) p.args)) (not (scopes_in y.name (body_of p))) a.1 in
-            ap (λ z. scopes_in z (body_of p)) (same_name x d.name k ∙ ap (λ (z : Decl). z.name) (sym j)) ∙ not_yes (scopes_in y.name (body_of p)) b.1)
+        let j : y ≡ d = cc in
+        let a = and_parts (is_empty y.dims) _ l in
+        let b = and_parts (not (list_any (λ name. bytes_eq y.name name) p.args)) (not (scopes_in y.name (body_of p))) a.1 in
+        ap (λ z. scopes_in z (body_of p)) (same_name x d.name k ∙ ap (λ (z : Decl). z.name) (sym j)) ∙ not_yes (scopes_in y.name (body_of p)) b.1)
         (λ g l f. cc) refl e
 
 is_empty_dims : (ds : List Dim) → is_scalar ds ≡ true → is_empty ds ≡ true
@@ -277,11 +276,11 @@ all_scalar x (d ∷ ds) o h =
     let new = not_yes (list_any (λ (e : Decl). bytes_eq d.name e.name) ds) q.0 in
     or_to (bytes_eq x d.name && is_scalar d.dims) (is_scalar_name ds x)
     (λ k.
-        let r = and_parts (bytes_eq x d.name) (is_scalar d.dims) k in
-        and_from (is_scalar_if x d) (list_all (is_scalar_if x) ds) (or_right (not (bytes_eq x d.name)) (is_scalar d.dims) r.1) (not_here x ds (ap (λ y. list_any (λ (e : Decl). bytes_eq y e.name) ds) (same_name x d.name r.0) ∙ new)))
+    let r = and_parts (bytes_eq x d.name) (is_scalar d.dims) k in
+    and_from (is_scalar_if x d) (list_all (is_scalar_if x) ds) (or_right (not (bytes_eq x d.name)) (is_scalar d.dims) r.1) (not_here x ds (ap (λ y. list_any (λ (e : Decl). bytes_eq y e.name) ds) (same_name x d.name r.0) ∙ new)))
     (λ k.
-        let other = fails (bytes_eq x d.name) (λ e. never (list_any (λ (g : Decl). bytes_eq x g.name) ds) (named_scalar x ds k) (ap (λ y. list_any (λ (g : Decl). bytes_eq y g.name) ds) (same_name x d.name e) ∙ new)) in
-        and_from (is_scalar_if x d) (list_all (is_scalar_if x) ds) (or_left (not (bytes_eq x d.name)) (is_scalar d.dims) (ap not other)) (all_scalar x ds q.1 k)) h
+    let other = fails (bytes_eq x d.name) (λ e. never (list_any (λ (g : Decl). bytes_eq x g.name) ds) (named_scalar x ds k) (ap (λ y. list_any (λ (g : Decl). bytes_eq y g.name) ds) (same_name x d.name e) ∙ new)) in
+    and_from (is_scalar_if x d) (list_all (is_scalar_if x) ds) (or_left (not (bytes_eq x d.name)) (is_scalar d.dims) (ap not other)) (all_scalar x ds q.1 k)) h
 
 abbrev is_plain_if : List ℕ → Shape → Bool
 is_plain_if x s = not (bytes_eq x s.name) || is_empty s.axes
@@ -343,21 +342,15 @@ common_place x (e ∷ es) keys h g =
     let q = and_parts (is_plain_if x e) (list_all (is_plain_if x) es) h in
     by_cases (bytes_eq x e.name)
     (λ k.
-        let bare : e.axes ≡ [] = no_axes e.axes (or_to (not (bytes_eq x e.name)) (is_empty e.axes) (λ n. never (bytes_eq x e.name) k (not_yes (bytes_eq x e.name) n)) (λ n. n) q.0) in
-        subst (λ axes. Common (map (λ ss. (e.name, ss)) (Rattle.store_core.specs.Keys.subscripts_of axes) ++ keys_of es) keys x) (sym bare)
-        (record { q = 0; place = first_place (bytes_eq x e.name && true) _ (and_from (bytes_eq x e.name) true k refl); shared = (omega arith) }))
+    let bare : e.axes ≡ [] = no_axes e.axes (or_to (not (bytes_eq x e.name)) (is_empty e.axes) (λ n. never (bytes_eq x e.name) k (not_yes (bytes_eq x e.name) n)) (λ n. n) q.0) in
+    subst (λ axes. Common (map (λ ss. (e.name, ss)) (Rattle.store_core.specs.Keys.subscripts_of axes) ++ keys_of es) keys x) (sym bare)
+    (record { q = 0; place = first_place (bytes_eq x e.name && true) _ (and_from (bytes_eq x e.name) true k refl); shared = (omega arith) }))
     (λ k. behind_all x e.name (Rattle.store_core.specs.Keys.subscripts_of e.axes) (keys_of es) keys k (common_place x es keys q.1 (or_to (bytes_eq x e.name) (is_laid x es) (λ n. never (bytes_eq x e.name) n k) (λ n. n) g)))
 
--- a scalar that isn't a loop's own has a place
-pub record Shared (keys : List Key) (n : ℕ) (x : List ℕ) : Type 0 where
-  pub q : ℕ
-  pub place : first_at (same_key (x, [])) keys ≡ Some q
-  pub shared : q < n
-
 pub scalar_shared : (p : Program) → IsCleanBody p → (values : List Entry) (x : List ℕ) → is_scalar_name p.decls x ≡ true → scopes_in x (body_of p) ≡ false
-    → Shared (keys_of (with_scalars (shapes_of p values) p.decls)) (length (keys_of (shapes_of p values))) x
+    → HasPlace (keys_of (with_scalars (shapes_of p values) p.decls)) (length (keys_of (shapes_of p values))) x
 scalar_shared p t values x h s =
     let es = shapes_of p values in
     let plain : list_all (is_plain_if x) es ≡ true = plain_laid x (map (shape_of (value_in values)) (placed p)) [] refl (plain_shapes x (value_in values) (placed p) (all_placed p (is_scalar_if x) (all_scalar x p.decls t.typed.once h))) in
     let c = common_place x es (map plain_key (extra es p.decls)) plain (unscoped_laid p t values x (known_turned p.decls x ∙ named_scalar x p.decls h) s) in
-    subst (λ keys. Shared keys (length (keys_of es)) x) (sym (extra_keys p.decls es)) (record { q = c.q; place = c.place; shared = c.shared })
+    subst (λ keys. HasPlace keys (length (keys_of es)) x) (sym (extra_keys p.decls es)) (record { q = c.q; place = c.place; shared = c.shared })

@@ -1,12 +1,11 @@
 -- An accepted program with its sets of names is set up as the law wants it.
-use Rattle.std.proofs.Common.{◌≡◌, ◌⊎◌, inl, inr, ℕ, ◌<◌, ◌≤◌, ◌^◌, Bool, true, false, not, ◌&&◌, ◌||◌, if◌then◌else◌, cond, bytes_eq, List, [], ◌∷◌, ◌++◌, filter, find, map, length, Option, Some, None, Ok, Err, refl, ap, sym, subst, ◌∙◌, arith}
+use Rattle.std.proofs.Common.{◌≡◌, ◌⊎◌, inl, inr, ℕ, ◌<◌, ◌^◌, Bool, true, false, not, ◌&&◌, ◌||◌, if◌then◌else◌, cond, bytes_eq, List, [], ◌∷◌, ◌++◌, filter, find, map, length, Option, Some, None, Ok, Err, refl, ap, sym, subst, ◌∙◌, arith}
 use Rattle.std.specs.List.{list_any, list_all}
-use Rattle.std.proofs.lemmas.Bool.{and_parts, and_from, or_parts, or_left, or_right, or_from, true_from_ne_false}
+use Rattle.std.proofs.lemmas.Bool.{and_parts, and_from, or_right, or_from, true_from_ne_false}
 use Rattle.fl_base.specs.Spelling.{is_name}
 use Rattle.fl_ast.specs.Words.{reserved_words}
 use Rattle.fl_ast.specs.declared.kind.Kind.TheVariants.{Index, Ring}
 use Rattle.fl_ast.specs.declared.decl.Decl.{Decl}
-use Rattle.fl_ast.specs.declared.directive.Directive.{Directive}
 use Rattle.fl_ast.specs.declared.stmt.Program.{Program}
 use Rattle.fl_ast.specs.Readable.{IsReadable, is_variable, is_readable_decl, is_size_of, is_readable_dim}
 use Rattle.fl_ast.specs.Tree.{Expression, literal, get, minus, binary, power, call, Expressions, no_expressions, expression, Statement, assignment, branch, loop, Statements, no_statements, statement, Arms, no_arms, arm, stmt_trees}
@@ -17,30 +16,30 @@ use Rattle.fl_types.specs.Kinds.{Names, declared_names, kind_of_name, is_index_k
 use Rattle.fl_types.specs.Sharing.{has_name, is_ring_kind, is_ring_name, varies, varies_in, varies_in_arms}
 use Rattle.fl_types.specs.Supported.{is_declared, is_ring_argument}
 use Rattle.fl_types.specs.WellTyped.{is_scalar_declared}
-use Rattle.fl_types.specs.Mentions.{Mention, the_unit, mentions, in_args, in_decls, in_statements, at_unit}
+use Rattle.fl_types.specs.Mentions.{the_unit, mentions, in_args, in_decls, in_statements, at_unit}
 use Rattle.fl_types.specs.Rows.{first_fault, refused_by, judged, is_varying}
 use Rattle.store_core.specs.declared.values.Entry.{Entry}
 use Rattle.store_core.specs.Keys.{keys_of, with_scalars}
 use Rattle.store_core.specs.Places.{shapes_of}
+use Rattle.meaning.specs.Sites.{Key}
 use Rattle.reachability.specs.Reached.{Edge, IsAmong, root, onward}
 use Rattle.reachability.specs.Named.{are_both_declared, IsReachedName}
-use Rattle.activity.specs.Active.{edge_to, flows_to, all_flow_to, flows, flows_in, flows_in_arms, program_flows, turned, misfit_among, first_misfit}
+use Rattle.activity.specs.Active.{edge_to, flows_to, all_flow_to, flows, flows_in, flows_in_arms, program_flows, turned, first_misfit}
 use Rattle.adjoint_rules.specs.Needed.{kinds_of, read_by_all, restorings_in}
 use Rattle.adjoint_sets.specs.Names.{is_active, is_needed}
 use Rattle.adjoint_sets.specs.Reach.{is_reached_name}
-use Rattle.adjoint_sets.proofs.Reaching.{reached_name, named}
+use Rattle.adjoint_sets.proofs.Reaching.{reached_name}
 use Rattle.typing.proofs.Heads.{head_is}
 use Rattle.typing.proofs.Faultless.{Clean, apart, at_first}
 use Rattle.typing.proofs.TypedLaws.{typed}
-use Rattle.transposition.specs.Worlds.{is_reduction, name_at}
-use Rattle.transposition.specs.Sound.{SoundAll}
-use Rattle.sound_programs.specs.Uses.{is_varied, is_useful, is_own, outer_use, all_keep_variables, AreFitting}
-use Rattle.sound_programs.specs.Accepted.{IsAccepted, world_of_program, ProgramsAreSound, NamesFit, AskedNamesFit}
-use Rattle.sound_programs.proofs.Lists.{each_both, no_not, at_test, by_cases, never, fails, or_to, not_yes, same_name, has_in, in_left, in_right, in_map, in_filter, filter_meets}
+use Rattle.transposition.specs.Worlds.{name_at}
+use Rattle.sound_programs.specs.Uses.{is_varied, is_useful, is_own, AreFitting}
+use Rattle.sound_programs.specs.Accepted.{IsAccepted, PlacesFit, LayoutsFit, ProgramsAreSound, AskedNamesFit}
+use Rattle.sound_programs.proofs.Lists.{each_both, no_not, at_test, never, fails, or_to, not_yes, same_name, has_in, in_left, in_right, in_map, in_filter, filter_meets}
 use Rattle.sound_programs.proofs.Layouts.{is_laid, own_standing, low_name, high_unlaid}
 use Rattle.sound_programs.proofs.PlacedNames.{IsCleanBody, known_turned, scoped_local, laid_unscoped, unscoped_laid, scalar_shared}
-use Rattle.sound_programs.proofs.Setups.{Setup, body_in, keys_in, count_in, Facts, Scene, PartAll}
-use Rattle.sound_programs.proofs.Trees.{Spot, world_of, use_of, GivenAll, variable_all}
+use Rattle.sound_programs.proofs.Setups.{Setup, Facts, Scene, PartAll}
+use Rattle.sound_programs.proofs.Trees.{Spot, GivenAll, variable_all}
 use Rattle.sound_programs.proofs.Stating.{statements_sound}
 
 -- ---- what is reached
@@ -179,13 +178,16 @@ all_clean : (p : Program) → first_fault p ≡ None → Clean p (mentions p)
 unfolding first_fault
 all_clean p h = head_is p (mentions p) ∙ h
 
-pub clean_body : (p : Program) (of wrt : List (List ℕ)) → IsAccepted p of wrt → IsCleanBody p
-clean_body p of wrt a =
-    let none = faultless p a.typed in
+pub body_clean : (p : Program) → IsReadable p → judged p ≡ Ok p → IsCleanBody p
+body_clean p r t =
+    let none = faultless p t in
     let body = in_statements (at_unit p.line) (stmt_trees p.body) in
     let q = at_first p (the_unit p.line p.name) (in_args p.line [] p.args ++ (in_decls [] p.decls ++ body)) (all_clean p none) in
-    let r = apart p (in_args p.line [] p.args) (in_decls [] p.decls ++ body) q.1 in
-    record { typed = typed p a.readable none; clean = (apart p (in_decls [] p.decls) body r.1).1 }
+    let k = apart p (in_args p.line [] p.args) (in_decls [] p.decls ++ body) q.1 in
+    record { typed = typed p r none; clean = (apart p (in_decls [] p.decls) body k.1).1 }
+
+pub clean_body : (p : Program) (of wrt : List (List ℕ)) → IsAccepted p of wrt → IsCleanBody p
+clean_body p of wrt a = body_clean p a.readable a.typed
 
 -- ---- the sets
 
@@ -210,6 +212,26 @@ needed_begins p active x h k = begins p.decls (read_by_all (kinds_of p active) (
 needed_goes_on : (p : Program) (active : List ℕ → Bool) (e : Edge (List ℕ)) → IsAmong (restorings_in (kinds_of p active) (stmt_trees p.body)) e → is_declared p.decls e.tail ≡ true → is_declared p.decls e.head ≡ true → is_needed p active e.tail ≡ true → is_needed p active e.head ≡ true
 unfolding is_needed
 needed_goes_on p active e h a b r = goes_on p.decls (read_by_all (kinds_of p active) (stmt_trees p.body)) (restorings_in (kinds_of p active) (stmt_trees p.body)) e h a b r
+
+-- ---- places
+
+pub places_fit : LayoutsFit
+places_fit p values r t = record {
+  own = λ x k s. own_standing x p.decls (shapes_of p values) (λ e. never (is_declared p.decls x) k (ap (is_declared p.decls) e ∙ nameless p.decls r.decls)) (fails (is_laid x (shapes_of p values)) (λ l. never (is_own p x) s (laid_unscoped p c values x l))) (sym (known_turned p.decls x) ∙ k);
+  scalar = scalar_shared p c values;
+  low = λ q h. laid_unscoped p c values (name_at keys q) (low_name p.decls (shapes_of p values) q h);
+  high = λ q h. high (name_at keys q) (high_unlaid p.decls (shapes_of p values) q h);
+}
+  where
+    c : IsCleanBody p
+    c = body_clean p r t
+
+    keys : List Key
+    keys = keys_of (with_scalars (shapes_of p values) p.decls)
+
+    high : (x : List ℕ) → (x ≡ []) ⊎ ((is_laid x (shapes_of p values) ≡ false) × (list_any (λ (d : Decl). bytes_eq x d.name) p.decls ≡ true)) → (x ≡ []) ⊎ (is_own p x ≡ true)
+    high x (inl e) = inl e
+    high x (inr k) = inr (true_from_ne_false (is_own p x) (λ s. never (is_laid x (shapes_of p values)) (unscoped_laid p c values x (known_turned p.decls x ∙ k.1) s) k.0))
 
 -- ---- set up
 
@@ -236,10 +258,10 @@ facts_of p of wrt values choices a = record {
   parts = active_parts p of wrt;
   both = active_both p of wrt;
   whole = λ x v. whole_all (declared_names p.decls) x (stmt_trees p.body) c.typed.kinds v;
-  own = λ x k s. own_standing x p.decls (shapes_of p values) (λ e. never (is_declared p.decls x) k (ap (is_declared p.decls) e ∙ none)) (fails (is_laid x (shapes_of p values)) (λ l. never (is_own p x) s (laid_unscoped p c values x l))) (sym (known_turned p.decls x) ∙ k);
-  common = scalar_shared p c values;
-  low = λ q h. laid_unscoped p c values (name_at (keys_of (with_scalars (shapes_of p values) p.decls)) q) (low_name p.decls (shapes_of p values) q h);
-  high = λ q h. high (name_at (keys_of (with_scalars (shapes_of p values) p.decls)) q) (high_unlaid p.decls (shapes_of p values) q h);
+  own = l.own;
+  common = l.scalar;
+  low = l.low;
+  high = l.high;
   nameless = none;
 }
   where
@@ -252,9 +274,8 @@ facts_of p of wrt values choices a = record {
     ring : (x : List ℕ) → is_varied p wrt x ≡ true → is_ring_name p.decls x ≡ true
     ring x v = varied_ring p wrt (λ y i. all_fit p of wrt a.fit y (in_right of wrt y i)) x ((reached_name p.decls wrt (program_flows p) x).0 v)
 
-    high : (x : List ℕ) → (x ≡ []) ⊎ ((is_laid x (shapes_of p values) ≡ false) × (list_any (λ (d : Decl). bytes_eq x d.name) p.decls ≡ true)) → (x ≡ []) ⊎ (is_own p x ≡ true)
-    high x (inl e) = inl e
-    high x (inr k) = inr (true_from_ne_false (is_own p x) (λ s. never (is_laid x (shapes_of p values)) (unscoped_laid p c values x (known_turned p.decls x ∙ k.1) s) k.0))
+    l : PlacesFit p (keys_of (with_scalars (shapes_of p values) p.decls)) (length (keys_of (shapes_of p values)))
+    l = places_fit p values a.readable a.typed
 
 whole_part : (p : Program) (of wrt : List (List ℕ)) (values : List Entry) (choices : ℕ → List ℕ → Choice) → PartAll (setup_of p of wrt values choices) (λ z. Shared) (stmt_trees p.body)
 whole_part p of wrt values choices = record {

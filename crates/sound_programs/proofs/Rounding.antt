@@ -1,31 +1,30 @@
 -- Parallel loops of an accepted program.
-use Rattle.std.proofs.Common.{◌≡◌, ◌⊎◌, inl, inr, ℕ, ◌<◌, ◌≤◌, ◌^◌, Bool, true, false, not, ◌&&◌, ◌||◌, if◌then◌else◌, cond, bytes_eq, List, [], ◌∷◌, filter, map, Option, Some, None, refl, ap, sym, subst, ◌∙◌}
+use Rattle.std.proofs.Common.{◌≡◌, ◌⊎◌, inl, inr, ℕ, Bool, true, false, not, ◌&&◌, ◌||◌, if◌then◌else◌, bytes_eq, List, [], ◌∷◌, filter, map, Some, None, refl, ap, sym, subst, ◌∙◌}
 use Rattle.std.specs.List.{list_any, list_all}
 use Rattle.std.proofs.lemmas.Bool.{and_parts, and_from, or_parts, or_from, or_left, or_right}
 use Rattle.fl_ast.specs.declared.decl.Decl.{Decl}
 use Rattle.fl_ast.specs.declared.directive.Directive.{Directive}
 use Rattle.fl_ast.specs.Readable.{has_parallel_in}
-use Rattle.fl_ast.specs.Tree.{Expression, Statement, assignment, branch, loop, Statements, no_statements, statement}
+use Rattle.fl_ast.specs.Tree.{assignment, branch, loop, Statements, no_statements, statement}
 use Rattle.fl_types.specs.declared.sharing.Sharing.TheVariants.{Shared, Private, First, Plus, LoopVar}
-use Rattle.fl_types.specs.Nests.{is_nest, inner_head, inner_body, further_head, iteration_body}
-use Rattle.fl_types.specs.Sharing.{has_name, is_ring_name, varies_in, sharing_in, is_accessed, is_private, makes_accesses, ParallelLoop, loops_of_all}
+use Rattle.fl_types.specs.Nests.{is_nest, inner_head, inner_body, iteration_body}
+use Rattle.fl_types.specs.Sharing.{has_name, varies_in, sharing_in, is_accessed, is_private, makes_accesses, loops_of_all}
 use Rattle.fl_types.specs.Supported.{is_declared}
 use Rattle.fl_types.specs.Mentions as m
 use Rattle.fl_types.specs.Mentions.{Surroundings, Region}
-use Rattle.fl_types.specs.Rows.{is_varying, is_own_in}
+use Rattle.fl_types.specs.Rows.{is_varying}
 use Rattle.reachability.specs.Reached.{IsAmong}
 use Rattle.adjoint_sets.proofs.Reaching.{named}
 use Rattle.typing.proofs.Faultless.{Clean, apart}
 use Rattle.transposition.specs.Worlds.{World, is_reduction, name_at, in_iteration}
 use Rattle.transposition.specs.Back.{variables_of, loop_variables}
-use Rattle.transposition.specs.Sound.{writes, writes_in, Own, AllOwn, AllSummed, Common, SoundRounds}
+use Rattle.transposition.specs.Sound.{writes_in, Own, AllOwn, AllSummed, Common, SoundRounds}
 use Rattle.sound_programs.specs.Uses.{keeps_variables, IsCollectable}
-use Rattle.sound_programs.proofs.Lists.{at_test, by_cases, never, fails, or_to, same_name, itself, has_in, in_filter, filter_meets, not_yes}
+use Rattle.sound_programs.proofs.Lists.{at_test, by_cases, never, fails, or_to, itself, has_in, in_filter, filter_meets, not_yes}
 use Rattle.sound_programs.proofs.PlacedNames.{all_parts, known_turned, every_name}
-use Rattle.sound_programs.proofs.Mentioned.{IsVariable}
-use Rattle.sound_programs.proofs.Setups.{Setup, decls_in, body_in, keys_in, count_in, is_scoped, Facts, Scene, world_at, use_at}
+use Rattle.sound_programs.proofs.Setups.{Setup, decls_in, body_in, keys_in, is_scoped, Facts, Scene, use_at}
 use Rattle.sound_programs.proofs.Trees.{Spot, world_of, use_of, Outside, LoopClean, loop_clean, unset_all, variable_all}
-use Rattle.sound_programs.proofs.Turning.{InnerVariable, inner_variables, own_of}
+use Rattle.sound_programs.proofs.Turning.{inner_variables, own_of}
 
 -- ---- private names
 
@@ -165,9 +164,9 @@ needed_by t h d var body x k f g i =
     or_to (h.needed x) ((has_name x (own_privates t d var body) && (t.needed x && not (is_varying t.program x))) || has_name x (loop_variables d var body)) f
     (or_to (has_name x (own_privates t d var body) && (t.needed x && not (is_varying t.program x))) (has_name x (loop_variables d var body))
     (λ e.
-        let q = and_parts (has_name x (own_privates t d var body)) (t.needed x && not (is_varying t.program x)) e in
-        let r = and_parts (t.needed x) (not (is_varying t.program x)) q.1 in
-        g q.0 r.0 (not_yes (is_varying t.program x) r.1)) i) k
+    let q = and_parts (has_name x (own_privates t d var body)) (t.needed x && not (is_varying t.program x)) e in
+    let r = and_parts (t.needed x) (not (is_varying t.program x)) q.1 in
+    g q.0 r.0 (not_yes (is_varying t.program x) r.1)) i) k
 
 by_outer : (t : Setup) (h : Spot t) (d : Directive) (var : List ℕ) (body : Statements) (x : List ℕ) → h.needed x ≡ true → rounds_needed t h d var body x ≡ true
 by_outer t h d var body x e = or_left (h.needed x) ((has_name x (own_privates t d var body) && (t.needed x && not (is_varying t.program x))) || has_name x (loop_variables d var body)) e

@@ -1,5 +1,5 @@
 -- A program with its sets of names, the parts of its body, and what is in scope at a statement.
-use Rattle.std.proofs.Common.{◌≡◌, ◌⊎◌, ℕ, ◌<◌, ◌≤◌, Bool, true, false, not, ◌&&◌, ◌||◌, bytes_eq, List, [], ◌∷◌, ◌++◌, map, length, Option, Some, None, refl, ap, sym, ◌∙◌}
+use Rattle.std.proofs.Common.{◌≡◌, ◌⊎◌, ℕ, ◌<◌, ◌≤◌, Bool, true, false, not, ◌&&◌, ◌||◌, bytes_eq, List, [], ◌++◌, map, length, Option, Some, None, refl, ap}
 use Rattle.std.proofs.lemmas.Bool.{or_parts, or_left, or_right, and_from}
 use Rattle.fl_ast.specs.declared.decl.Decl.{Decl}
 use Rattle.fl_ast.specs.declared.directive.Directive.{Directive}
@@ -21,8 +21,7 @@ use Rattle.adjoint_choices.specs.Choosing.{is_scalar_name}
 use Rattle.transposition.specs.Worlds.{World, is_reduction, name_at}
 use Rattle.transposition.specs.Law.{Use}
 use Rattle.sound_programs.proofs.Lists.{in_left, in_right, never, no_not, by_cases, or_to}
-use Rattle.sound_programs.proofs.Layouts.{Standing}
-use Rattle.sound_programs.proofs.PlacedNames.{Shared}
+use Rattle.sound_programs.specs.Accepted.{HasOnePlace, HasPlace}
 use Rattle.sound_programs.proofs.Mentioned.{IsUsable, IsTarget}
 
 -- ---- a program
@@ -88,8 +87,8 @@ pub record Facts (t : Setup) : Type 0 where
   -- loops' variables are of the index kind
   pub whole : (x : List ℕ) → is_varying t.program x ≡ true → is_ring_name (decls_in t) x ≡ false
   -- a loop's own name has a place of the iteration's own, others have places of the layout
-  pub own : (x : List ℕ) → is_declared (decls_in t) x ≡ true → is_scoped t x ≡ true → Standing (keys_in t) (count_in t) x
-  pub common : (x : List ℕ) → is_scalar_name (decls_in t) x ≡ true → is_scoped t x ≡ false → Shared (keys_in t) (count_in t) x
+  pub own : (x : List ℕ) → is_declared (decls_in t) x ≡ true → is_scoped t x ≡ true → HasOnePlace (keys_in t) (count_in t) x
+  pub common : (x : List ℕ) → is_scalar_name (decls_in t) x ≡ true → is_scoped t x ≡ false → HasPlace (keys_in t) (count_in t) x
   pub low : (q : ℕ) → q < count_in t → is_scoped t (name_at (keys_in t) q) ≡ false
   pub high : (q : ℕ) → count_in t ≤ q → (name_at (keys_in t) q ≡ []) ⊎ (is_scoped t (name_at (keys_in t) q) ≡ true)
   pub nameless : is_declared (decls_in t) [] ≡ false

@@ -7,7 +7,7 @@ use Rattle.fl_ast.specs.declared.kind.BinOp.TheVariants as op
 use Rattle.fl_ast.specs.declared.kind.RelOp.{RelOp}
 use Rattle.fl_ast.specs.declared.kind.RelOp.TheVariants as rel
 use Rattle.fl_ast.specs.declared.kind.Fun.TheVariants as fun
-use Rattle.fl_ast.specs.Tree.{Expression, literal, get, minus, binary, power, call, Expressions, no_expressions, expression, Condition, relation}
+use Rattle.fl_ast.specs.Tree.{Expression, literal, get, minus, binary, power, call, Expressions, no_expressions, expression, relation}
 use Rattle.fl_types.specs.Increment.{Signed}
 use Rattle.reachability.specs.Reached.{IsAmong}
 use Rattle.adjoint_rules.specs.Occurrences as rules
@@ -15,7 +15,7 @@ use Rattle.adjoint_rules.specs.Needed.{names_in, names_in_all, names_in_factor, 
 use Rattle.transposition.specs.Spread as law
 use Rattle.transposition.specs.Back.{rest_occurrences}
 use Rattle.transposition.specs.Law.{Use}
-use Rattle.transposition.specs.Needs.{NeedsFactor, NeedsFactors, NeedsOne, NeedsEach}
+use Rattle.transposition.specs.Needs.{NeedsFactor, NeedsFactors, NeedsEach}
 use Rattle.sound_programs.proofs.Lists.{in_left, in_right, Each, each_both, each_left, each_right}
 use Rattle.sound_programs.proofs.NameReads.{needs_of, needs_all, needs_condition}
 

@@ -1,30 +1,28 @@
 -- Every statement of an accepted program meets what the law of transposition asks of it.
-use Rattle.std.proofs.Common.{◌≡◌, ◌⊎◌, inl, inr, ℕ, ◌+◌, ◌<◌, ◌≤◌, ◌^◌, Bool, true, false, not, ◌&&◌, ◌||◌, if◌then◌else◌, cond, bytes_eq, List, [], ◌∷◌, ◌++◌, map, Option, Some, None, refl, ap, sym, subst, ◌∙◌, arith}
+use Rattle.std.proofs.Common.{◌≡◌, inl, inr, ℕ, ◌+◌, ◌<◌, ◌≤◌, ◌^◌, Bool, true, false, not, ◌&&◌, ◌||◌, if◌then◌else◌, cond, bytes_eq, List, ◌∷◌, ◌++◌, Option, Some, None, refl, arith}
 use Rattle.std.specs.List.{list_all}
 use Rattle.std.proofs.lemmas.Bool.{and_parts, or_parts, or_left, or_right}
 use Rattle.fl_ast.specs.declared.directive.Directive.{Directive}
-use Rattle.fl_ast.specs.Measures.{nodes, nodes_of_each, condition_nodes, step_nodes, nodes_of_all, statement_nodes, arm_nodes}
+use Rattle.fl_ast.specs.Measures.{nodes, condition_nodes, step_nodes, nodes_of_all, statement_nodes, arm_nodes}
 use Rattle.fl_ast.specs.Readable.{is_variable, is_readable, is_readable_step, is_readable_condition, is_readable_directive, is_parallel, has_arm, has_parallel, has_parallel_in, has_parallel_in_arms, is_readable_statement, are_readable_statements, are_readable_arms}
-use Rattle.fl_ast.specs.Tree.{Expression, Condition, Statement, assignment, branch, loop, Statements, no_statements, statement, Arms, no_arms, arm}
-use Rattle.fl_types.specs.declared.choice.Choice.{Choice}
+use Rattle.fl_ast.specs.Tree.{Expression, Statement, assignment, branch, loop, Statements, no_statements, statement, Arms, no_arms, arm}
 use Rattle.fl_types.specs.Kinds.{declared_names, has_scalar_privates, is_well_kinded_condition, is_well_kinded_head, is_well_kinded_statement, are_well_kinded_statements, are_well_kinded_arms}
 use Rattle.fl_types.specs.Nests.{is_nest, inner_head}
 use Rattle.fl_types.specs.Sharing.{has_name, is_plus, sharing_in, makes_accesses, varies_in, assigns_in, ParallelLoop, loops_of, loops_of_all, loops_of_arms}
 use Rattle.fl_types.specs.Mentions as m
 use Rattle.fl_types.specs.Mentions.{Region}
-use Rattle.fl_types.specs.Rows.{is_varying}
 use Rattle.store_core.specs.Scopes.{scopes_in}
 use Rattle.reachability.specs.Reached.{IsAmong}
-use Rattle.typing.proofs.Faultless.{Clean, apart}
+use Rattle.typing.proofs.Faultless.{apart}
 use Rattle.transposition.specs.Worlds.{is_reduction, in_iteration}
 use Rattle.transposition.specs.Back.{variables_of, loop_variables}
 use Rattle.transposition.specs.Sound.{arm_count, Sound, SoundAll, SoundArms, SoundInner}
 use Rattle.sound_programs.specs.Uses.{keeps_variables, IsCollectable}
-use Rattle.sound_programs.proofs.Lists.{in_left, in_right, at_test, never, fails, or_to, not_yes, itself}
+use Rattle.sound_programs.proofs.Lists.{in_left, at_test, never, fails, or_to, not_yes, itself}
 use Rattle.sound_programs.proofs.PlacedNames.{all_parts}
 use Rattle.sound_programs.proofs.Mentioned.{assignment_clean}
-use Rattle.sound_programs.proofs.Setups.{Setup, decls_in, is_scoped, Facts, Scene, PartOne, PartAll, PartArms, first_part, rest_part, arms_part, other_part, arm_part, later_part, body_part, use_at}
-use Rattle.sound_programs.proofs.Trees.{Spot, world_of, use_of, Outside, LoopClean, loop_clean, Given, GivenOne, GivenAll, GivenArms, left_given, right_given, few_arms, flat_all, unset_all, variable_all}
+use Rattle.sound_programs.proofs.Setups.{Setup, decls_in, Facts, PartOne, PartAll, PartArms, first_part, rest_part, arms_part, other_part, arm_part, later_part, body_part, use_at}
+use Rattle.sound_programs.proofs.Trees.{Spot, world_of, use_of, loop_clean, Given, GivenOne, GivenAll, GivenArms, left_given, right_given, few_arms, flat_all, unset_all, variable_all}
 use Rattle.sound_programs.proofs.Assigning.{assignment_sound}
 use Rattle.sound_programs.proofs.Turning.{HeadKinds, head_kinds, further_literals, turned, turned_outside, variable_sound}
 use Rattle.sound_programs.proofs.Rounding.{Loop, rounds_needed, rounds_live, rounds_scene, rounds_sound}
@@ -179,16 +177,16 @@ mutual
         variable_sound t f h var first last step c.variable v s k.head,
         unset_all t.program (m.at_body h.around var None) var body c.inside g.keeps (or_left (bytes_eq var var) (has_name var h.around.vars) (itself var)) v,
         statements_sound t f body (turned t h var v)
-        (record {
-          clean = c.inside;
-          kinds = k.inside;
-          read = (loop_readable None var first last step body g.read).inside;
-          few = fewer first last step body g.few;
-          keeps = g.keeps;
-          fitting = g.fitting;
-          outside = λ o. turned_outside t h var v (g.outside o);
-        })
-        (body_part t h.choice h.choice line number None var first last step body part (λ x i. part.summed x i)),
+            (record {
+              clean = c.inside;
+              kinds = k.inside;
+              read = (loop_readable None var first last step body g.read).inside;
+              few = fewer first last step body g.few;
+              keeps = g.keeps;
+              fitting = g.fitting;
+              outside = λ o. turned_outside t h var v (g.outside o);
+            })
+            (body_part t h.choice h.choice line number None var first last step body part (λ x i. part.summed x i)),
       )
   statement_sound t f (loop line number (Some d) var first last step body) h g part =
       let l = the_loop t f h line number d var first last step body g part in
@@ -203,9 +201,9 @@ mutual
         k.head.literals,
         further_literals (declared_names (decls_in t)) d body k.inside,
         at_test (λ b. cond b (SoundInner w u body) (SoundAll w u body)) (is_nest d body)
-        (λ e. inner_sound t f body h line number d var l e k.inside r few (λ q i. g.fitting q (inr i)) chosen)
-        (λ e. statements_sound t f body (iterating t h line number d var body l (alone t h d var body e))
-        (record { clean = l.clean.inside; kinds = k.inside; read = r; few = few; keeps = l.keep; fitting = λ q i. g.fitting q (inr i); outside = λ o. never (has_parallel_in body) o l.flat }) chosen),
+            (λ e. inner_sound t f body h line number d var l e k.inside r few (λ q i. g.fitting q (inr i)) chosen)
+            (λ e. statements_sound t f body (iterating t h line number d var body l (alone t h d var body e))
+            (record { clean = l.clean.inside; kinds = k.inside; read = r; few = few; keeps = l.keep; fitting = λ q i. g.fitting q (inr i); outside = λ o. never (has_parallel_in body) o l.flat }) chosen),
         flat_all body l.flat,
       )
 
@@ -214,11 +212,11 @@ mutual
   statements_sound t f (statement a ss) h g part =
       let names = declared_names (decls_in t) in (
         statement_sound t f a h
-        (left_given t h (m.in_statement h.around a) (m.in_statements h.around ss) (is_well_kinded_statement names a) (are_well_kinded_statements names ss) (is_readable_statement a) (are_readable_statements ss) (statement_nodes a) (nodes_of_all ss) (loops_of h.around.vars a) (loops_of_all h.around.vars ss) (has_parallel a) (has_parallel_in ss) g)
-        (first_part t h.choice a ss part),
+            (left_given t h (m.in_statement h.around a) (m.in_statements h.around ss) (is_well_kinded_statement names a) (are_well_kinded_statements names ss) (is_readable_statement a) (are_readable_statements ss) (statement_nodes a) (nodes_of_all ss) (loops_of h.around.vars a) (loops_of_all h.around.vars ss) (has_parallel a) (has_parallel_in ss) g)
+            (first_part t h.choice a ss part),
         statements_sound t f ss h
-        (right_given t h (m.in_statement h.around a) (m.in_statements h.around ss) (is_well_kinded_statement names a) (are_well_kinded_statements names ss) (is_readable_statement a) (are_readable_statements ss) (statement_nodes a) (nodes_of_all ss) (loops_of h.around.vars a) (loops_of_all h.around.vars ss) (has_parallel a) (has_parallel_in ss) g)
-        (rest_part t h.choice a ss part),
+            (right_given t h (m.in_statement h.around a) (m.in_statements h.around ss) (is_well_kinded_statement names a) (are_well_kinded_statements names ss) (is_readable_statement a) (are_readable_statements ss) (statement_nodes a) (nodes_of_all ss) (loops_of h.around.vars a) (loops_of_all h.around.vars ss) (has_parallel a) (has_parallel_in ss) g)
+            (rest_part t h.choice a ss part),
       )
 
   arms_sound : (t : Setup) → Facts t → (arms : Arms) (h : Spot t) (line : ℕ) → GivenArms t h line arms → PartArms t h.choice arms → SoundArms (world_of t h) (use_of t h) arms
@@ -235,11 +233,11 @@ mutual
         outside = g.outside;
       } in (
         statements_sound t f body h
-        (left_given t h (m.in_statements h.around body) (m.in_arms h.around line arms) (are_well_kinded_statements names body) (are_well_kinded_arms names arms) (are_readable_statements body) (are_readable_arms arms) (nodes_of_all body) (arm_nodes arms) (loops_of_all h.around.vars body) (loops_of_arms h.around.vars arms) (has_parallel_in body) (has_parallel_in_arms arms) k)
-        (arm_part t h.choice test body arms part),
+            (left_given t h (m.in_statements h.around body) (m.in_arms h.around line arms) (are_well_kinded_statements names body) (are_well_kinded_arms names arms) (are_readable_statements body) (are_readable_arms arms) (nodes_of_all body) (arm_nodes arms) (loops_of_all h.around.vars body) (loops_of_arms h.around.vars arms) (has_parallel_in body) (has_parallel_in_arms arms) k)
+            (arm_part t h.choice test body arms part),
         arms_sound t f arms h line
-        (right_given t h (m.in_statements h.around body) (m.in_arms h.around line arms) (are_well_kinded_statements names body) (are_well_kinded_arms names arms) (are_readable_statements body) (are_readable_arms arms) (nodes_of_all body) (arm_nodes arms) (loops_of_all h.around.vars body) (loops_of_arms h.around.vars arms) (has_parallel_in body) (has_parallel_in_arms arms) k)
-        (later_part t h.choice test body arms part),
+            (right_given t h (m.in_statements h.around body) (m.in_arms h.around line arms) (are_well_kinded_statements names body) (are_well_kinded_arms names arms) (are_readable_statements body) (are_readable_arms arms) (nodes_of_all body) (arm_nodes arms) (loops_of_all h.around.vars body) (loops_of_arms h.around.vars arms) (has_parallel_in body) (has_parallel_in_arms arms) k)
+            (later_part t h.choice test body arms part),
       )
 
   -- the statements of the loop in a collapsed loop's body

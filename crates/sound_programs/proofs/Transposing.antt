@@ -1,14 +1,13 @@
 -- The law of transposition for accepted programs.
-use Rattle.std.proofs.Common.{◌≡◌, ℕ, Bool, true, false, not, cond, List, [], ◌∷◌, Some, None, refl, ap, sym, ◌∙◌}
+use Rattle.std.proofs.Common.{◌≡◌, ℕ, Bool, true, false, not, cond, List, [], Some, None, ap}
 use Rattle.std.proofs.lemmas.Bool.{and_from}
 use Rattle.fl_ast.specs.Tree.{Statement, assignment, branch, loop, Statements, no_statements, statement, Arms, no_arms, arm, stmt_trees, program_tree}
-use Rattle.store_core.specs.Keys.{keys_of, with_scalars}
 use Rattle.store_core.specs.Places.{shapes_of}
 use Rattle.meaning.specs.declared.value.Value.TheVariants.{Index}
 use Rattle.meaning.specs.Sites.{Cells, place_of}
 use Rattle.meaning.specs.Statements.{value_at, set_at}
 use Rattle.meaning.specs.Adjoints.{cells_along, unit}
-use Rattle.meaning.specs.Programs.{entry_site, entry_cells}
+use Rattle.meaning.specs.Programs.{entry_cells}
 use Rattle.adjoint_sets.specs.Names.{is_active, is_needed}
 use Rattle.transposition.specs.Worlds.{World, is_one_step, name_at, in_turn}
 use Rattle.transposition.specs.Law.{SharedApart}

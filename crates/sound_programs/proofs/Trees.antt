@@ -1,15 +1,14 @@
 -- What is given of a part of a program's body, and of its parts.
-use Rattle.std.proofs.Common.{◌≡◌, ◌⊎◌, inl, inr, ℕ, ◌+◌, ◌<◌, ◌≤◌, ◌^◌, Bool, true, false, not, ◌&&◌, ◌||◌, if◌then◌else◌, bytes_eq, List, [], ◌∷◌, ◌++◌, map, Option, Some, None, refl, ap, sym, ◌∙◌, arith}
+use Rattle.std.proofs.Common.{◌≡◌, ℕ, ◌+◌, ◌<◌, ◌≤◌, ◌^◌, Bool, true, false, not, ◌&&◌, ◌||◌, bytes_eq, List, ◌∷◌, ◌++◌, Option, Some, None, refl, ap, ◌∙◌, arith}
 use Rattle.std.specs.List.{list_all}
-use Rattle.std.proofs.lemmas.Bool.{and_parts, or_parts, or_from, or_left, or_right, not_from_true}
+use Rattle.std.proofs.lemmas.Bool.{and_parts, or_parts, or_from, or_left, or_right}
 use Rattle.fl_ast.specs.declared.directive.Directive.{Directive}
 use Rattle.fl_ast.specs.declared.stmt.Program.{Program}
 use Rattle.fl_ast.specs.Measures.{nodes_of_all, statement_nodes, arm_nodes}
-use Rattle.fl_ast.specs.Readable.{is_parallel, has_parallel, has_parallel_in, has_parallel_in_arms, is_readable_statement, are_readable_statements, are_readable_arms, listed_names}
-use Rattle.fl_ast.specs.Tree.{Expression, Condition, Statement, assignment, branch, loop, Statements, no_statements, statement, Arms, no_arms, arm}
+use Rattle.fl_ast.specs.Readable.{has_parallel, has_parallel_in, has_parallel_in_arms, is_readable_statement, are_readable_statements, are_readable_arms}
+use Rattle.fl_ast.specs.Tree.{Expression, Statement, assignment, branch, loop, Statements, no_statements, statement, Arms, no_arms, arm}
 use Rattle.fl_types.specs.declared.choice.Choice.{Choice}
 use Rattle.fl_types.specs.Kinds.{declared_names, is_well_kinded_statement, are_well_kinded_statements, are_well_kinded_arms}
-use Rattle.fl_types.specs.Nests.{Head}
 use Rattle.fl_types.specs.Sharing.{has_name, varies, varies_in, varies_in_arms, ParallelLoop, loops_of, loops_of_all, loops_of_arms}
 use Rattle.fl_types.specs.Mentions as m
 use Rattle.fl_types.specs.Mentions.{Region, Surroundings, Mention, a_variable, a_listed, a_directive}

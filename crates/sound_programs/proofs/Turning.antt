@@ -1,28 +1,25 @@
 -- Heads of loops, and sequential loops of an accepted program.
-use Rattle.std.proofs.Common.{◌≡◌, inl, inr, ℕ, ◌<◌, ◌^◌, Bool, true, false, not, ◌&&◌, ◌||◌, if◌then◌else◌, bytes_eq, List, [], ◌∷◌, Option, Some, None, refl, ap, sym, subst, ◌∙◌}
+use Rattle.std.proofs.Common.{◌≡◌, inl, inr, ℕ, Bool, true, ◌&&◌, ◌||◌, if◌then◌else◌, bytes_eq, List, ◌∷◌, Option, Some, None, ap, subst, ◌∙◌}
 use Rattle.std.proofs.lemmas.Bool.{and_parts, or_left, or_right}
 use Rattle.fl_ast.specs.declared.directive.Directive.{Directive}
-use Rattle.fl_ast.specs.Tree.{Expression, Statement, assignment, branch, loop, Statements, no_statements, statement}
-use Rattle.fl_types.specs.Kinds.{Names, kind_of_expression, is_index_kind, is_well_kinded, is_index_expression, is_index_step, is_index_scalar, has_scalar_privates, is_well_kinded_head, is_well_kinded_statement, are_well_kinded_statements, declared_names}
-use Rattle.fl_types.specs.Nests.{Head, is_nest, inner_head, further_head}
-use Rattle.fl_types.specs.Sharing.{has_name, is_ring_name, varies, varies_in}
-use Rattle.fl_types.specs.Supported.{is_declared}
+use Rattle.fl_ast.specs.Tree.{Expression, assignment, branch, loop, Statements, no_statements, statement}
+use Rattle.fl_types.specs.Kinds.{Names, kind_of_expression, is_index_kind, is_well_kinded, is_index_expression, is_index_step, is_index_scalar, has_scalar_privates, is_well_kinded_head, are_well_kinded_statements, declared_names}
+use Rattle.fl_types.specs.Nests.{is_nest, inner_head, further_head}
+use Rattle.fl_types.specs.Sharing.{has_name, is_ring_name, varies_in}
 use Rattle.fl_types.specs.Mentions as m
 use Rattle.fl_types.specs.Mentions.{Surroundings, Region}
-use Rattle.fl_types.specs.Rows.{is_varying, is_own_in}
-use Rattle.transposition.specs.Worlds.{World}
+use Rattle.fl_types.specs.Rows.{is_varying}
 use Rattle.transposition.specs.Back.{variables_of}
 use Rattle.transposition.specs.Sound.{Literals, OptionLiterals, Whole, OptionWhole, HeadLiterals, SoundVariable, Own}
-use Rattle.transposition.specs.Typed.{TypedExpression}
 use Rattle.transposition.proofs.WellKinded.{typed_by_kinds}
 use Rattle.fl_ast.specs.declared.stmt.Program.{Program}
 use Rattle.reachability.specs.Reached.{IsAmong}
 use Rattle.typing.proofs.Faultless.{Clean, apart}
 use Rattle.sound_programs.proofs.Lists.{at_test, never, fails, or_to, same_name, itself}
-use Rattle.sound_programs.proofs.Layouts.{Standing}
+use Rattle.sound_programs.specs.Accepted.{HasOnePlace}
 use Rattle.sound_programs.proofs.Mentioned.{IsVariable}
-use Rattle.sound_programs.proofs.Setups.{Setup, decls_in, keys_in, count_in, is_scoped, Facts, Scene, world_at, use_at}
-use Rattle.sound_programs.proofs.Trees.{Spot, world_of, use_of, Outside, LoopClean, loop_clean}
+use Rattle.sound_programs.proofs.Setups.{Setup, decls_in, keys_in, count_in, is_scoped, Facts, Scene}
+use Rattle.sound_programs.proofs.Trees.{Spot, world_of, use_of, Outside, loop_clean}
 
 -- ---- bounds
 
@@ -115,7 +112,7 @@ turned_outside t h var v o = record {
   dead = o.dead;
 }
 
-pub own_of : (t : Setup) (h : Spot t) (x : List ℕ) → Standing (keys_in t) (count_in t) x → Own (world_of t h) x
+pub own_of : (t : Setup) (h : Spot t) (x : List ℕ) → HasOnePlace (keys_in t) (count_in t) x → Own (world_of t h) x
 own_of t h x s = record { q = s.q; place = s.place; only = s.only; own = s.own }
 
 pub variable_sound : (t : Setup) → Facts t → (h : Spot t) (var : List ℕ) (first last : Expression) (step : Option Expression) → IsVariable t.program h.around.vars var → is_varying t.program var ≡ true → is_scoped t var ≡ true → HeadKinds (declared_names (decls_in t)) first last step

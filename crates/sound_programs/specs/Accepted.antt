@@ -1,31 +1,34 @@
 -- The law of transposition for accepted programs: its premises on names follow from typing and from the sets of names.
-use Rattle.std.specs.Prelude.{◌≡◌, ℕ, ◌+◌, ◌<◌, ◌^◌, All, Bool, true, false, List, length, Some, None, Ok, slice_index}
+use Rattle.std.specs.Prelude.{◌≡◌, ◌⊎◌, ℕ, ◌+◌, ◌<◌, ◌≤◌, ◌^◌, All, true, false, List, [], length, Some, None, Ok, slice_index}
 use Rattle.fl_ast.specs.declared.stmt.Program.{Program}
 use Rattle.fl_ast.specs.Readable.{IsReadable}
 use Rattle.fl_ast.specs.Tree.{stmt_trees, program_tree}
 use Rattle.fl_types.specs.declared.choice.Choice.{Choice}
 use Rattle.fl_types.specs.Rows.{judged}
-use Rattle.fl_types.specs.Sharing.{has_name}
+use Rattle.fl_types.specs.Sharing.{has_name, ParallelLoop, loops_of_all}
+use Rattle.fl_types.specs.Supported.{is_declared}
+use Rattle.store_core.specs.Keys.{keys_of, same_key, first_at}
 use Rattle.store_core.specs.declared.values.Entry.{Entry}
 use Rattle.store_core.specs.Places.{shapes_of}
 use Rattle.meaning.specs.declared.value.Dual.{Dual}
 use Rattle.meaning.specs.declared.value.Value.TheVariants.{Ring}
 use Rattle.meaning.specs.Logs.{events}
-use Rattle.meaning.specs.Sites.{Cells}
+use Rattle.meaning.specs.Sites.{Key, Cells}
 use Rattle.meaning.specs.Expressions.{content}
 use Rattle.meaning.specs.Stops.{Limits, by_conflict, at_end, first_stop}
 use Rattle.meaning.specs.Adjoints.{cells_along, unit}
-use Rattle.meaning.specs.Programs.{entry_cells, run_of, adjoint_of}
+use Rattle.meaning.specs.Programs.{entry_site, entry_cells, no_pushes, run_of, adjoint_of}
+use Rattle.reachability.specs.Reached.{IsAmong}
 use Rattle.activity.specs.Active.{first_misfit}
-use Rattle.adjoint_choices.specs.Choosing.{choices_of}
+use Rattle.adjoint_choices.specs.Choosing.{is_scalar_name, choices_of}
 use Rattle.adjoint_sets.specs.Names.{is_active, is_needed}
 use Rattle.transposition.specs.Worlds.{World, is_one_step, name_at}
 use Rattle.transposition.specs.Law.{Like, AreWords, SharedApart}
-use Rattle.transposition.specs.Calms.{PairwiseAll}
+use Rattle.transposition.specs.Calms.{AreFlat, PairwiseAll}
 use Rattle.transposition.specs.Sound.{SoundAll}
 use Rattle.transposition.specs.Programs.{program_world}
 use Rattle.transposition.specs.Answer.{reverse_run}
-use Rattle.sound_programs.specs.Uses.{outer_use, all_keep_variables, AreFitting, choice_in}
+use Rattle.sound_programs.specs.Uses.{is_own, outer_use, all_keep_variables, AreFitting, choice_in}
 
 -- a program that some text reads as, and that typing doesn't refuse, with names that may be asked of and by
 pub record IsAccepted (p : Program) (of wrt : List (List ℕ)) : Type 0 where
@@ -38,11 +41,44 @@ pub record IsAccepted (p : Program) (of wrt : List (List ℕ)) : Type 0 where
 abbrev pub world_of_program : Program → (of wrt : List (List ℕ)) → List Entry → (ℕ → List ℕ → Choice) → World
 world_of_program p of wrt values choices = program_world (program_tree p) (shapes_of p values) (is_needed p (is_active p of wrt)) (is_active p of wrt) choices
 
+-- the one place of a scalar, from n on
+pub record HasOnePlace (keys : List Key) (n : ℕ) (x : List ℕ) : Type 0 where
+  pub q : ℕ
+  pub place : first_at (same_key (x, [])) keys ≡ Some q
+  pub only : (p : ℕ) → name_at keys p ≡ x → p ≡ q
+  pub own : n ≤ q
+
+-- the place of a scalar, below n
+pub record HasPlace (keys : List Key) (n : ℕ) (x : List ℕ) : Type 0 where
+  pub q : ℕ
+  pub place : first_at (same_key (x, [])) keys ≡ Some q
+  pub shared : q < n
+
 -- what the law asks of a program's names holds
 abbrev pub ProgramsAreSound : Type 0
 ProgramsAreSound =
     (p : Program) (of wrt : List (List ℕ)) (values : List Entry) (choices : ℕ → List ℕ → Choice) → IsAccepted p of wrt → AreFitting p (is_active p of wrt) choices
     → SoundAll (world_of_program p of wrt values choices) (outer_use p of wrt) (stmt_trees p.body)
+
+-- a loop's own name has one place, and that behind the layout; a scalar that is none has a place of the layout, where no loop's own name has one
+pub record PlacesFit (p : Program) (keys : List Key) (count : ℕ) : Type 0 where
+  pub own : (x : List ℕ) → is_declared p.decls x ≡ true → is_own p x ≡ true → HasOnePlace keys count x
+  pub scalar : (x : List ℕ) → is_scalar_name p.decls x ≡ true → is_own p x ≡ false → HasPlace keys count x
+  pub low : (q : ℕ) → q < count → is_own p (name_at keys q) ≡ false
+  pub high : (q : ℕ) → count ≤ q → (name_at keys q ≡ []) ⊎ (is_own p (name_at keys q) ≡ true)
+
+abbrev pub LayoutsFit : Type 0
+LayoutsFit =
+    (p : Program) (values : List Entry) → IsReadable p → judged p ≡ Ok p
+    → PlacesFit p (entry_site (program_tree p) (shapes_of p values) no_pushes).keys (length (keys_of (shapes_of p values)))
+
+-- no parallel loop is in another, and each has a number of its own
+pub record LoopsFit (p : Program) : Type 0 where
+  pub flat : (l : ParallelLoop) → IsAmong (loops_of_all [] (stmt_trees p.body)) l → AreFlat l.body
+  pub one : (l k : ParallelLoop) → IsAmong (loops_of_all [] (stmt_trees p.body)) l → IsAmong (loops_of_all [] (stmt_trees p.body)) k → l.number ≡ k.number → l ≡ k
+
+abbrev pub ParallelLoopsFit : Type 0
+ParallelLoopsFit = (p : Program) → IsReadable p → judged p ≡ Ok p → LoopsFit p
 
 -- each name of `wrt` moves; a name that moves and doesn't count isn't in `of`; an active argument counts
 pub record NamesFit (p : Program) (of wrt : List (List ℕ)) : Type 0 where
