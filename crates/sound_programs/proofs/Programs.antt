@@ -33,7 +33,7 @@ use Rattle.typing.proofs.Heads.{head_is}
 use Rattle.typing.proofs.Faultless.{Clean, apart, at_first}
 use Rattle.typing.proofs.TypedLaws.{typed}
 use Rattle.transposition.specs.Worlds.{name_at}
-use Rattle.sound_programs.specs.Uses.{is_varied, is_useful, is_own, AreFitting}
+use Rattle.sound_programs.specs.Uses.{is_varied, is_useful, is_own, all_keep_variables, AreFitting}
 use Rattle.sound_programs.specs.Accepted.{IsAccepted, PlacesFit, LayoutsFit, ProgramsAreSound, AskedNamesFit}
 use Rattle.sound_programs.proofs.Lists.{each_both, no_not, at_test, never, fails, or_to, not_yes, same_name, has_in, in_left, in_right, in_map, in_filter, filter_meets}
 use Rattle.sound_programs.proofs.Layouts.{is_laid, own_standing, low_name, high_unlaid}
@@ -315,13 +315,13 @@ outer_spot p of wrt values choices = record {
 few : (n : ℕ) → n < 2 ^ 32 → n < 2 ^ 64
 few n h = omega arith
 
-outer_given : (p : Program) (of wrt : List (List ℕ)) (values : List Entry) (choices : ℕ → List ℕ → Choice) → IsAccepted p of wrt → AreFitting p (is_active p of wrt) choices → GivenAll (setup_of p of wrt values choices) (outer_spot p of wrt values choices) (stmt_trees p.body)
-outer_given p of wrt values choices a f = record {
+outer_given : (p : Program) (of wrt : List (List ℕ)) (values : List Entry) (choices : ℕ → List ℕ → Choice) → IsAccepted p of wrt → all_keep_variables p ≡ true → AreFitting p (is_active p of wrt) choices → GivenAll (setup_of p of wrt values choices) (outer_spot p of wrt values choices) (stmt_trees p.body)
+outer_given p of wrt values choices a kept f = record {
   clean = c.clean;
   kinds = c.typed.kinds;
   read = a.readable.body;
   few = few _ a.readable.few_nodes;
-  keeps = a.keeps;
+  keeps = kept;
   fitting = f;
   outside = λ h. record {
     alone = refl;
@@ -336,8 +336,8 @@ outer_given p of wrt values choices a f = record {
     c = clean_body p of wrt a
 
 pub programs_sound : ProgramsAreSound
-programs_sound p of wrt values choices a f =
-    statements_sound (setup_of p of wrt values choices) (facts_of p of wrt values choices a) (stmt_trees p.body) (outer_spot p of wrt values choices) (outer_given p of wrt values choices a f) (whole_part p of wrt values choices)
+programs_sound p of wrt values choices a kept f =
+    statements_sound (setup_of p of wrt values choices) (facts_of p of wrt values choices a) (stmt_trees p.body) (outer_spot p of wrt values choices) (outer_given p of wrt values choices a kept f) (whole_part p of wrt values choices)
 
 -- ---- the names that are asked of and by
 

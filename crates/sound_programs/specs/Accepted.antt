@@ -35,7 +35,6 @@ pub record IsAccepted (p : Program) (of wrt : List (List ℕ)) : Type 0 where
   pub readable : IsReadable p
   pub typed : judged p ≡ Ok p
   pub fit : first_misfit p of wrt ≡ None
-  pub keeps : all_keep_variables p ≡ true
 
 -- where the reverse part of a program stands, for these choices: old values of the needed names are pushed
 abbrev pub world_of_program : Program → (of wrt : List (List ℕ)) → List Entry → (ℕ → List ℕ → Choice) → World
@@ -57,7 +56,7 @@ pub record HasPlace (keys : List Key) (n : ℕ) (x : List ℕ) : Type 0 where
 -- what the law asks of a program's names holds
 abbrev pub ProgramsAreSound : Type 0
 ProgramsAreSound =
-    (p : Program) (of wrt : List (List ℕ)) (values : List Entry) (choices : ℕ → List ℕ → Choice) → IsAccepted p of wrt → AreFitting p (is_active p of wrt) choices
+    (p : Program) (of wrt : List (List ℕ)) (values : List Entry) (choices : ℕ → List ℕ → Choice) → IsAccepted p of wrt → all_keep_variables p ≡ true → AreFitting p (is_active p of wrt) choices
     → SoundAll (world_of_program p of wrt values choices) (outer_use p of wrt) (stmt_trees p.body)
 
 -- a loop's own name has one place, and that behind the layout; a scalar that is none has a place of the layout, where no loop's own name has one
@@ -109,7 +108,7 @@ AcceptedIsTransposed =
     (p : Program) (of wrt : List (List ℕ)) (values : List Entry) (choices : ℕ → List ℕ → Choice) (limits : Limits) (words vs seed : List ℕ) (s2 : Cells) (j : ℕ) (d : Dual)
     → let w = world_of_program p of wrt values choices in
     let s = entry_cells (program_tree p) (shapes_of p values) words in
-    IsAccepted p of wrt → AreFitting p (is_active p of wrt) choices → PairwiseAll SharedApart (stmt_trees p.body) w (cells_along (unit j) s) → All (λ x. x < 2 ^ 64) words
+    IsAccepted p of wrt → all_keep_variables p ≡ true → AreFitting p (is_active p of wrt) choices → PairwiseAll SharedApart (stmt_trees p.body) w (cells_along (unit j) s) → All (λ x. x < 2 ^ 64) words
     → (run_of (program_tree p) (shapes_of p values) (is_needed p (is_active p of wrt)) s).out ≡ Ok s2 → first_stop by_conflict limits (events (run_of (program_tree p) (shapes_of p values) (is_needed p (is_active p of wrt)) s).log) ≡ at_end
     → Like (outer_use p of wrt) w.site.keys vs s2 → length vs ≡ length w.site.keys → length seed ≡ length w.site.keys → AreWords seed → ((q : ℕ) → has_name (name_at w.site.keys q) of ≡ false → slice_index seed q ≡ 0)
     → j < w.shared → content s j ≡ Some (Ring d) → has_name (name_at w.site.keys j) wrt ≡ true → is_active p of wrt (name_at w.site.keys j) ≡ true
@@ -121,7 +120,7 @@ MadeIsTransposed =
     (p : Program) (of wrt : List (List ℕ)) (values : List Entry) (limits : Limits) (words vs seed : List ℕ) (s2 : Cells) (j : ℕ) (d : Dual)
     → let w = world_of_program p of wrt values (made_choices p of wrt) in
     let s = entry_cells (program_tree p) (shapes_of p values) words in
-    IsAccepted p of wrt → All (λ x. x < 2 ^ 64) words
+    IsAccepted p of wrt → all_keep_variables p ≡ true → All (λ x. x < 2 ^ 64) words
     → (run_of (program_tree p) (shapes_of p values) (is_needed p (is_active p of wrt)) s).out ≡ Ok s2 → first_stop by_conflict limits (events (run_of (program_tree p) (shapes_of p values) (is_needed p (is_active p of wrt)) s).log) ≡ at_end
     → Like (outer_use p of wrt) w.site.keys vs s2 → length vs ≡ length w.site.keys → length seed ≡ length w.site.keys → AreWords seed → ((q : ℕ) → has_name (name_at w.site.keys q) of ≡ false → slice_index seed q ≡ 0)
     → j < w.shared → content s j ≡ Some (Ring d) → has_name (name_at w.site.keys j) wrt ≡ true → is_active p of wrt (name_at w.site.keys j) ≡ true

@@ -1,7 +1,8 @@
 ghost use Rattle.sound_programs.specs.Accepted.{AcceptedIsTransposed, AskedNamesFit, LayoutsFit, MadeChoicesFit, MadeIsTransposed, ParallelLoopsFit, ProgramsAreSound};
 
-/// What the law of transposition asks of the names of a program, statement by statement, holds of every accepted program: from typing,
-/// from the active and the needed names, and from choices that fit. It does nothing.
+/// What the law of transposition asks of the names of a program, statement by statement, holds of every accepted program in which no
+/// parallel loop lists the variable of a loop around it as private: from typing, from the active and the needed names, and from choices
+/// that fit. It does nothing.
 pub fn programs_are_sound()
     ensures { ProgramsAreSound }
 {}
