@@ -15,3 +15,4 @@ pub mod Transposing
 pub mod LoopNumbers
 pub mod Collecting
 mod Examples
+pub mod Inactive

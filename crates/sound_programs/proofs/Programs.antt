@@ -48,7 +48,7 @@ pub reached_known : (decls : List Decl) (roots : List (List ℕ)) (edges : List 
 reached_known decls roots edges x (root y h) = filter_meets (is_declared decls) roots x h
 reached_known decls roots edges x (onward w y h l) = (and_parts (is_declared decls w) (is_declared decls x) (filter_meets (are_both_declared decls) edges (record { tail = w; head = x }) l)).1
 
-filter_among : {X : Type 0} (test : X → Bool) (xs : List X) (x : X) → IsAmong (filter test xs) x → IsAmong xs x
+pub filter_among : {X : Type 0} (test : X → Bool) (xs : List X) (x : X) → IsAmong (filter test xs) x → IsAmong xs x
 filter_among test [] x h = absurd h
 filter_among test (y ∷ ys) x h =
     at_test (λ b. IsAmong (if b then y ∷ filter test ys else filter test ys) x → IsAmong (y ∷ ys) x) (test y) (λ e k. either k (λ g. filter_among test ys x g)) (λ e k. inr (filter_among test ys x k)) h
@@ -57,10 +57,10 @@ filter_among test (y ∷ ys) x h =
     either (inl e) f = inl e
     either (inr k) f = inr (f k)
 
-begins : (decls : List Decl) (roots : List (List ℕ)) (edges : List (Edge (List ℕ))) (x : List ℕ) → IsAmong roots x → is_declared decls x ≡ true → is_reached_name decls roots edges x ≡ true
+pub begins : (decls : List Decl) (roots : List (List ℕ)) (edges : List (Edge (List ℕ))) (x : List ℕ) → IsAmong roots x → is_declared decls x ≡ true → is_reached_name decls roots edges x ≡ true
 begins decls roots edges x h k = (reached_name decls roots edges x).1 (root x (in_filter (is_declared decls) roots x h k))
 
-goes_on : (decls : List Decl) (roots : List (List ℕ)) (edges : List (Edge (List ℕ))) (e : Edge (List ℕ)) → IsAmong edges e → is_declared decls e.tail ≡ true → is_declared decls e.head ≡ true → is_reached_name decls roots edges e.tail ≡ true → is_reached_name decls roots edges e.head ≡ true
+pub goes_on : (decls : List Decl) (roots : List (List ℕ)) (edges : List (Edge (List ℕ))) (e : Edge (List ℕ)) → IsAmong edges e → is_declared decls e.tail ≡ true → is_declared decls e.head ≡ true → is_reached_name decls roots edges e.tail ≡ true → is_reached_name decls roots edges e.head ≡ true
 goes_on decls roots edges e h a b r =
     (reached_name decls roots edges e.head).1
     (onward e.tail e.head ((reached_name decls roots edges e.tail).0 r) (in_filter (are_both_declared decls) edges e h (and_from (is_declared decls e.tail) (is_declared decls e.head) a b)))
@@ -161,7 +161,7 @@ none_found test (y ∷ ys) h x i =
     one e f (inl k) = ap test (sym k) ∙ e
     one e f (inr k) = f k
 
-all_fit : (p : Program) (of wrt : List (List ℕ)) → first_misfit p of wrt ≡ None → (x : List ℕ) → IsAmong (of ++ wrt) x → is_ring_argument p x ≡ true
+pub all_fit : (p : Program) (of wrt : List (List ℕ)) → first_misfit p of wrt ≡ None → (x : List ℕ) → IsAmong (of ++ wrt) x → is_ring_argument p x ≡ true
 all_fit p of wrt h x i = no_not (is_ring_argument p x) (none_found (λ y. not (is_ring_argument p y)) (of ++ wrt) h x i)
 
 -- ---- typing
@@ -195,7 +195,7 @@ active_parts : (p : Program) (of wrt : List (List ℕ)) (x : List ℕ) → is_ac
 unfolding is_active
 active_parts p of wrt x h = and_parts (is_varied p wrt x) (is_useful p of x) h
 
-active_both : (p : Program) (of wrt : List (List ℕ)) (x : List ℕ) → is_varied p wrt x ≡ true → is_useful p of x ≡ true → is_active p of wrt x ≡ true
+pub active_both : (p : Program) (of wrt : List (List ℕ)) (x : List ℕ) → is_varied p wrt x ≡ true → is_useful p of x ≡ true → is_active p of wrt x ≡ true
 unfolding is_active
 active_both p of wrt x h k = and_from (is_varied p wrt x) (is_useful p of x) h k
 
@@ -341,20 +341,20 @@ programs_sound p of wrt values choices a kept f =
 
 -- ---- the names that are asked of and by
 
+pub known_argument : (p : Program) (x : List ℕ) → is_ring_argument p x ≡ true → is_declared p.decls x ≡ true
+known_argument p x h = known_turned p.decls x ∙ ring_known p.decls x (and_parts (has_name x p.args) (is_ring_name p.decls x) h).1
+
 pub names_fit : AskedNamesFit
 names_fit p of wrt a = record { moved = moved; seeded = seeded; live = live }
   where
     c : IsCleanBody p
     c = clean_body p of wrt a
 
-    known : (x : List ℕ) → is_ring_argument p x ≡ true → is_declared p.decls x ≡ true
-    known x h = known_turned p.decls x ∙ ring_known p.decls x (and_parts (has_name x p.args) (is_ring_name p.decls x) h).1
-
     unowned : (x : List ℕ) → has_name x p.args ≡ true → is_own p x ≡ false
     unowned x h = fails (is_own p x) (λ s. never (has_name x p.args) h (not_yes (has_name x p.args) (and_parts (not (has_name x p.args)) (is_scalar_declared _) (scoped_local p c x s)).0))
 
     moved : (x : List ℕ) → has_name x wrt ≡ true → is_varied p wrt x ≡ true
-    moved x h = let i = has_in x wrt h in begins p.decls wrt (program_flows p) x i (known x (all_fit p of wrt a.fit x (in_right of wrt x i)))
+    moved x h = let i = has_in x wrt h in begins p.decls wrt (program_flows p) x i (known_argument p x (all_fit p of wrt a.fit x (in_right of wrt x i)))
 
     live : (x : List ℕ) → is_active p of wrt x ≡ true → has_name x p.args ≡ true → (is_active p of wrt x && not (is_own p x)) ≡ true
     live x h k = and_from (is_active p of wrt x) (not (is_own p x)) h (ap not (unowned x k))
@@ -363,7 +363,7 @@ names_fit p of wrt a = record { moved = moved; seeded = seeded; live = live }
     seeded x h m = fails (has_name x of) (λ o.
         let i = has_in x of o in
         let g = all_fit p of wrt a.fit x (in_left of wrt x i) in
-        let active = active_both p of wrt x m (begins p.decls of (map turned (program_flows p)) x i (known x g)) in
+        let active = active_both p of wrt x m (begins p.decls of (map turned (program_flows p)) x i (known_argument p x g)) in
         never (is_active p of wrt x && not (is_own p x)) (live x active (and_parts (has_name x p.args) (is_ring_name p.decls x) g).0) h)
 
 -- a place of the layout is none of a loop's own names

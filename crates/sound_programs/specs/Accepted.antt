@@ -125,3 +125,11 @@ MadeIsTransposed =
     → Like (outer_use p of wrt) w.site.keys vs s2 → length vs ≡ length w.site.keys → length seed ≡ length w.site.keys → AreWords seed → ((q : ℕ) → has_name (name_at w.site.keys q) of ≡ false → slice_index seed q ≡ 0)
     → j < w.shared → content s j ≡ Some (Ring d) → has_name (name_at w.site.keys j) wrt ≡ true → is_active p of wrt (name_at w.site.keys j) ≡ true
     → slice_index (reverse_run w (stmt_trees p.body) s vs seed).cells (w.shared + j) ≡ adjoint_of (program_tree p) (shapes_of p values) words seed j
+
+-- and a name of `wrt` that isn't active has the adjoint 0, whether or not the run is stopped
+abbrev pub InactiveIsZero : Type 0
+InactiveIsZero =
+    (p : Program) (of wrt : List (List ℕ)) (values : List Entry) (words seed : List ℕ) (j : ℕ)
+    → let keys = (entry_site (program_tree p) (shapes_of p values) no_pushes).keys in
+    IsAccepted p of wrt → all_keep_variables p ≡ true → All (λ x. x < 2 ^ 64) words → ((q : ℕ) → has_name (name_at keys q) of ≡ false → slice_index seed q ≡ 0)
+    → has_name (name_at keys j) wrt ≡ true → is_active p of wrt (name_at keys j) ≡ false → adjoint_of (program_tree p) (shapes_of p values) words seed j ≡ 0

@@ -1,4 +1,4 @@
-ghost use Rattle.sound_programs.specs.Accepted.{AcceptedIsTransposed, AskedNamesFit, LayoutsFit, MadeChoicesFit, MadeIsTransposed, ParallelLoopsFit, ProgramsAreSound};
+ghost use Rattle.sound_programs.specs.Accepted.{AcceptedIsTransposed, AskedNamesFit, InactiveIsZero, LayoutsFit, MadeChoicesFit, MadeIsTransposed, ParallelLoopsFit, ProgramsAreSound};
 
 /// What the law of transposition asks of the names of a program, statement by statement, holds of every accepted program in which no
 /// parallel loop lists the variable of a loop around it as private: from typing, from the active and the needed names, and from choices
@@ -27,6 +27,11 @@ pub fn accepted_is_transposed()
 /// So with the choices that are made where nothing is known, without a premise on reads. It does nothing.
 pub fn made_is_transposed()
     ensures { MadeIsTransposed }
+{}
+
+/// A name that is asked by and isn't active has the adjoint 0. It does nothing.
+pub fn inactive_is_zero()
+    ensures { InactiveIsZero }
 {}
 
 /// Variables of loops and private names of a typed program have places of their own behind those of the layout, and the other names have

@@ -4,6 +4,6 @@
 mod laws;
 
 pub use laws::{
-    accepted_is_transposed, asked_names_fit, layouts_fit, made_choices_fit, made_is_transposed,
-    parallel_loops_fit, programs_are_sound,
+    accepted_is_transposed, asked_names_fit, inactive_is_zero, layouts_fit, made_choices_fit,
+    made_is_transposed, parallel_loops_fit, programs_are_sound,
 };
