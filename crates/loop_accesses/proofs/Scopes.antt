@@ -1,11 +1,11 @@
 -- The classes by sets of names are those of the loop.
-use Rattle.std.proofs.Common.{◌≡◌, ℕ, Bool, not, ◌&&◌, ◌||◌, if◌then◌else◌, List, refl, ap, ◌∙◌}
+use Rattle.std.proofs.Common.{◌≡◌, ℕ, Bool, not, ◌&&◌, ◌||◌, if◌then◌else◌, List, ap, ◌∙◌}
 use Rattle.std.specs.Prelude.{bytes_eq}
 use Rattle.fl_ast.specs.declared.decl.Decl.{Decl}
 use Rattle.fl_types.specs.declared.sharing.Sharing.{Sharing}
 use Rattle.fl_types.specs.declared.sharing.Sharing.TheVariants.{Shared, Private, First, Plus, LoopVar}
 use Rattle.fl_types.specs.Sharing.{has_name, varies_in, sharing_in, is_accessed, is_plus, is_ring_name, ParallelLoop, makes_accesses}
-use Rattle.fl_types.specs.Accesses.{Scope, scope_of}
+use Rattle.fl_types.specs.Accesses.{scope_of}
 use Rattle.loop_accesses.specs.declared.classes.LoopNames.{LoopNames}
 use Rattle.loop_accesses.specs.Classes.{class_by, scope_by}
 

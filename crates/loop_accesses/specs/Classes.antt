@@ -1,5 +1,5 @@
 -- The classes of names as the code finds them, by sets of names.
-use Rattle.std.specs.Prelude.{ℕ, Bool, not, ◌&&◌, if◌then◌else◌, List}
+use Rattle.std.specs.Prelude.{ℕ, not, ◌&&◌, if◌then◌else◌, List}
 use Rattle.fl_types.specs.declared.sharing.Sharing.{Sharing}
 use Rattle.fl_types.specs.declared.sharing.Sharing.TheVariants.{Shared, Private, First, Plus, LoopVar}
 use Rattle.fl_types.specs.Sharing.{has_name, is_accessed, is_plus, is_ring_name}

@@ -3,11 +3,13 @@
 
 mod assignments;
 mod classes;
+mod infos;
 mod numbers;
 mod path;
 mod reads;
 mod statements;
 mod view;
 
+pub use infos::{LoopInfo, loops};
 pub use numbers::accesses;
 pub use view::{LoopView, parallel_loops};

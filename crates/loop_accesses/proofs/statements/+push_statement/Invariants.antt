@@ -1,6 +1,4 @@
-use Rattle.std.proofs.Common.{◌≡◌, ◌+◌, ◌++◌, ℕ, List, map, drop}
-use Rattle.fl_ast.specs.Tree.{stmt_trees, arm_trees}
-use Rattle.fl_types.specs.Accesses.{statements_count, arms_count, accesses_all, arms_accesses}
+use Rattle.std.proofs.Common.{map}
 use Rattle.loop_accesses.specs.Classes.{scope_by}
 use Rattle.loop_accesses.specs.Views.{steps_of, occurrence_of}
 use Rattle.loop_accesses.proofs.Walks.{StatementsFront, ArmsFront}

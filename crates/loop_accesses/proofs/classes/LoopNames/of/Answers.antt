@@ -1,4 +1,4 @@
-use Rattle.std.proofs.Common.{rules, ◌≡◌, ℕ, List, ap, ◌∙◌, refl, map}
+use Rattle.std.proofs.Common.{ap, ◌∙◌, refl, map}
 use Rattle.fl_types.specs.Sharing.{has_name}
 use Rattle.loop_accesses.specs.Views.{loop_view, referred}
 use Rattle.loop_accesses.proofs.Scopes.{scope_is}
