@@ -75,6 +75,10 @@ between_all p of wrt ds links back reached reaching rs ts names d l b f g r t e 
     (λ x. subst (λ k. IsAmong reaching x ↔ IsReachedName k of (map turned (program_flows p)) x) d (g (map turned (program_flows p)) (b ∙ ap (λ k. links_of k (map turned (program_flows p))) (sym d)) x))
     (e ∙ (ap (λ k. filter (λ x. has_name x k) rs) t ∙ ap (λ k. filter (λ x. has_name x reaching) k) r))
 
+-- a list with the same names
+pub listed_alike : (p : Program) (of wrt names others : List (List ℕ)) → ((x : List ℕ) → has_name x others ≡ has_name x names) → AreActive p of wrt names → AreActive p of wrt others
+listed_alike p of wrt names others e a x = (λ h. (a x).0 (sym (e x) ∙ h), λ h. e x ∙ (a x).1 h)
+
 -- ---- the first misfit
 
 pub found_first : {X : Type 0} (p : X → Bool) (xs ys : List X) (x : X) → find p xs ≡ Some x → find p (xs ++ ys) ≡ Some x

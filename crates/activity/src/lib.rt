@@ -2,6 +2,7 @@
 #![tactic(auto)]
 
 mod flow;
+mod order;
 mod set;
 
 pub use set::{ActivityError, active};

@@ -2,9 +2,11 @@ ghost use Rattle.std.specs.Prelude.{◌≡◌, ◌↔◌, ℕ, List, true, map, 
 ghost use Rattle.activity.specs.declared.set.ActivityError.TheVariants.{NotRing, Memory as memory};
 ghost use Rattle.fl_types.specs.Sharing.{has_name as has_name_lem};
 ghost use Rattle.reachability.specs.Named.{links_of};
+ghost use Rattle.activity.specs.Order.{are_ordered};
 ghost use Rattle.activity.specs.Active.{AreActive, IsCause, misfit_among, first_misfit, program_flows, turned_link};
 
 use crate::flow::push_flows_in;
+use crate::order::ordered;
 use fl_ast::{Name, Program};
 use fl_base::{Items, Memory};
 use fl_types::{NameSet, Typed};
@@ -120,11 +122,13 @@ pub fn active(
     wrt: &[Name],
 ) -> Result<NameSet, ActivityError>
     ensures active { IfOk result (λ set. AreActive typed.now of.now wrt.now set.names) }
+    ensures ordered { IfOk result (λ set. are_ordered set.names ≡ true) }
     ensures fits { IfOk result (λ _. first_misfit typed.now of.now wrt.now ≡ None) }
     ensures refused { IfErr result (λ e. IsCause (first_misfit typed.now of.now wrt.now) e) }
 {
     check_names(alloc, typed, of)?;
     check_names(alloc, typed, wrt)?;
-    let names = names_between(alloc, typed.program(), of, wrt)?;
+    let between = names_between(alloc, typed.program(), of, wrt)?;
+    let names = ordered(alloc, between)?;
     Ok(NameSet { names })
 }

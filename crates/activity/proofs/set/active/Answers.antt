@@ -1,7 +1,7 @@
 use Rattle.std.proofs.Common.{◌∙◌, subst, not}
 use Rattle.fl_types.specs.Supported.{is_ring_argument}
 use Rattle.activity.specs.Active.{IsCause, first_misfit, AreActive}
-use Rattle.activity.proofs.Between.{err_is, cause_first, cause_later, found_later}
+use Rattle.activity.proofs.Between.{listed_alike, err_is, cause_first, cause_later, found_later}
 use Rattle.activity.proofs.set.active.Goals as goal
 
 pub returns-in_err-check_names-clause-refused : goal.returns-in_err-check_names-clause-refused
@@ -15,7 +15,9 @@ returns-in_err-check_names-2-clause-refused c =
     (cause_later c.args.typed.now c.args.of.now c.args.wrt.now c.in_err-check_names-2.field-0.0 c.in_ok-check_names.ensures.ok c.in_err-check_names-2.ensures.err)
 
 pub returns-clause-active : goal.returns-clause-active
-returns-clause-active c = subst (λ p. AreActive p c.args.of.now c.args.wrt.now c.in_ok-names.names) c.program.ensures.program c.in_ok-names.ensures
+returns-clause-active c =
+    listed_alike c.args.typed.now c.args.of.now c.args.wrt.now c.in_ok-between.between c.in_ok-names.names c.in_ok-names.ensures.members
+    (subst (λ p. AreActive p c.args.of.now c.args.wrt.now c.in_ok-between.between) c.program.ensures.program c.in_ok-between.ensures)
 
 pub returns-clause-fits : goal.returns-clause-fits
 returns-clause-fits c = found_later (λ x. not (is_ring_argument c.args.typed.now x)) c.args.of.now c.args.wrt.now c.in_ok-check_names.ensures.ok ∙ c.in_ok-check_names-2.ensures.ok
