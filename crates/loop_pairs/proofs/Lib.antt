@@ -1,0 +1,5 @@
+pub mod Ranks
+pub mod Forms
+pub mod Loops
+pub mod Typed
+pub mod Surveys

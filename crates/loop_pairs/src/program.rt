@@ -1,0 +1,61 @@
+//! What is known of all loops of a program.
+
+ghost use Rattle.std.specs.Prelude.{◌≡◌, [], ℕ, List, map, option_map, IfOk};
+ghost use Rattle.fl_ast.specs.Tree.{stmt_trees};
+ghost use Rattle.fl_types.specs.Sharing.{has_name};
+ghost use Rattle.loop_scenes.specs.Loops.{loops_by_all};
+ghost use Rattle.loop_scenes.specs.Views.{headed_seen};
+ghost use Rattle.certificate_check.specs.Pairs.{loop_of};
+ghost use Rattle.certificate_check.specs.Flaws.{loops_of};
+ghost use Rattle.loop_pairs.specs.Known.{IsKnown, AreKnown, AreSurveys};
+
+use crate::knowledge::loop_pairs;
+use certificate_check::LoopPairs;
+use fl_base::{Items, Memory};
+use fl_types::{NameSet, Typed};
+use known_names::Indexed;
+use loop_scenes::{HeadedView, all_loops};
+use std::alloc::Global;
+
+fn known_loop<'t>(
+    alloc: Global,
+    indexed: &Indexed<'t>,
+    active: &NameSet,
+    headed: &Option<HeadedView<'t>>,
+) -> Result<Option<LoopPairs>, Memory>
+    ensures { IfOk result (λ o. IsKnown indexed.now.decls (λ x. has_name x active.now.names) (headed_seen headed.now) (option_map loop_of o)) }
+{
+    match headed {
+        Some(headed) => Ok(Some(loop_pairs(alloc, indexed, active, headed)?)),
+        None => Ok(None),
+    }
+}
+
+fn known_among<'t>(
+    alloc: Global,
+    indexed: &Indexed<'t>,
+    active: &NameSet,
+    loops: &[Option<HeadedView<'t>>],
+) -> Result<Items<Option<LoopPairs>>, Memory>
+    ensures { IfOk result (λ all. AreKnown indexed.now.decls (λ x. has_name x active.now.names) (map headed_seen loops.now) (loops_of all)) }
+{
+    let mut all = Items::new(alloc);
+    for i in 0..loops.len() {
+        all.push(known_loop(alloc, indexed, active, &loops[i])?)?;
+    }
+    Ok(all)
+}
+
+/// For each loop of the program, in textual order, whether it is parallel, and what is known of it then. So a loop stands at its number.
+pub fn known_loops(
+    alloc: Global,
+    typed: &Typed,
+    active: &NameSet,
+) -> Result<Items<Option<LoopPairs>>, Memory>
+    ensures known { IfOk result (λ all. AreKnown typed.now.decls (λ x. has_name x active.now.names) (loops_by_all [] (stmt_trees typed.now.body)) (loops_of all)) }
+    ensures surveys { IfOk result (λ all. AreSurveys (loops_of all)) }
+{
+    let indexed = Indexed::of(alloc, typed.program())?;
+    let loops = all_loops(alloc, indexed.program().body.as_slice())?;
+    Ok(known_among(alloc, &indexed, active, loops.as_slice())?)
+}
