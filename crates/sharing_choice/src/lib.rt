@@ -1,0 +1,10 @@
+//! Which choices a reverse part goes by, and the derivations that they rest on.
+#![tactic(auto)]
+
+mod choice;
+mod copied;
+mod derivation;
+mod derivations;
+mod shown;
+
+pub use choice::{SharingChoice, choose};
