@@ -23,7 +23,7 @@ use Rattle.sweep_steps.specs.declared.step.Flow.{the_lemmas as flow_lemmas}
 use Rattle.sweep_steps.specs.declared.step.Flow.TheVariants as flow
 use Rattle.sweep_steps.specs.Steps.{Step, StepArm, StepTrees, no_steps, store_step, loop_step, step_arm, no_step_arms, store_tree, around_tree, step_tree, step_trees, arm_tree, step_arm_trees}
 use Rattle.sweep_steps.specs.StepsStand.{flags_at, AllStand, ArmsStand}
-use Rattle.made_steps.specs.Scopes.{IsScope, IsOutside}
+use Rattle.loop_scopes.specs.Scopes.{IsScope, IsOutside}
 
 -- ---- trees
 
@@ -64,7 +64,7 @@ pub arms_fit : (names : Names) (xs : List ResolvedArm) (i : ℕ) (x : ResolvedAr
     → (is_arm_fit names x ≡ true) × (are_arms_fit names (drop (i + 1) xs) ≡ true)
 arms_fit names xs i x l g h = and_parts (is_arm_fit names x) (are_arms_fit names (drop (i + 1) xs)) (ap (are_arms_fit names) (sym (dropped xs i x l g)) ∙ h)
 
-arms_are : (shapes : List Shape) (xs : List ResolvedArm) (i : ℕ) (x : ResolvedArm) → i < length xs → x ≡ get_or xs i x
+pub arms_are : (shapes : List Shape) (xs : List ResolvedArm) (i : ℕ) (x : ResolvedArm) → i < length xs → x ≡ get_or xs i x
     → arms_back shapes (drop i xs) ≡ arm (condition_back shapes x.test) (statements_back shapes x.body) (arms_back shapes (drop (i + 1) xs))
 arms_are shapes xs i x l g =
     ap (arms_back shapes) (dropped xs i x l g) ∙ ap (λ (p : Condition × Statements). arm p.0 p.1 (arms_back shapes (drop (i + 1) xs))) (one_arm_back shapes x)

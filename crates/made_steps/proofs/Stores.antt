@@ -28,13 +28,9 @@ use Rattle.sweep_trees.specs.Split.{SpotTree}
 use Rattle.sweep_trees.specs.Standing.{is_accessed_at, is_ring_fit}
 use Rattle.split_trees.specs.Codes.{CodeTree, code_kind, spot_slot, StandsFor, SpotStandsFor}
 use Rattle.sweep_steps.specs.StepsStand.{flags_at, spot_kind, AssignStands, UpdateStands}
-use Rattle.made_steps.specs.Scopes.{IsScope, TermsStand}
-
--- marks that are made from names tell of a slot what they tell of its name
-pub marked_at : (f : List ℕ → Bool) (shapes : List Shape) (slot : ℕ) → slot < length shapes → is_accessed_at (map (λ (s : Shape). f s.name) shapes) slot ≡ f (slot_name shapes slot)
-marked_at f [] slot h = absurd (omega (arith, h))
-marked_at f (s ∷ shapes) zero h = refl
-marked_at f (s ∷ shapes) (suc slot) h = marked_at f shapes slot (omega (arith, h))
+use Rattle.loop_scopes.specs.Scopes.{IsScope}
+use Rattle.loop_scopes.proofs.Scopes.{marked_at}
+use Rattle.made_steps.specs.Scopes.{TermsStand}
 
 -- ---- kinds
 

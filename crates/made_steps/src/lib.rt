@@ -3,14 +3,12 @@
 
 mod heads;
 mod laws;
-mod loops;
-mod marks;
 mod nest;
 mod parallel;
-mod privates;
 mod steps;
 mod store;
 mod terms;
 
 pub use laws::opening_is_outside;
 pub use steps::steps_of;
+pub use terms::{chain_terms, sum_terms};

@@ -1,8 +1,7 @@
-ghost use Rattle.std.specs.Prelude.{◌≡◌, true, ℕ, List, length, Some, IfOk};
-ghost use Rattle.fl_types.specs.Nests.{Head as LoopHead, is_plain_loop as is_plain_loop_lem, is_nest as is_nest_lem, head_of, further_head};
+ghost use Rattle.std.specs.Prelude.{◌≡◌, true, length, Some, IfOk};
+ghost use Rattle.fl_types.specs.Nests.{Head as LoopHead, is_plain_loop as is_plain_loop_lem, head_of, further_head};
 ghost use Rattle.fl_types.specs.Kinds.{is_well_kinded_statement, are_well_kinded_statements};
 ghost use Rattle.meaning.specs.Fitting.{names_at};
-ghost use Rattle.store_core.specs.declared.layout.Shape.{Shape as LaidShape};
 ghost use Rattle.store_core.specs.Keys.{HasEachOnce};
 ghost use Rattle.resolved.specs.SlotTables.{table_site};
 ghost use Rattle.resolved.specs.ResolvedStmts.{statement_back, statements_back, is_fit, are_fit};
@@ -11,33 +10,10 @@ ghost use Rattle.sweep_steps.specs.StepsStand.{HeadStands, InnerStands};
 
 use crate::heads::make_head;
 use fl_ast::{Directive, Memory};
+use loop_scopes::is_nest;
 use resolved::{ResolvedStmt, SlotTable};
 use std::alloc::Global;
 use sweep_steps::StepHead;
-
-fn is_plain_loop(stmt: &ResolvedStmt) -> bool
-    ensures { (shapes : List LaidShape) → result ≡ is_plain_loop_lem (statement_back shapes stmt.now) }
-{
-    match stmt {
-        ResolvedStmt::Assign { .. } => false,
-        ResolvedStmt::If { .. } => false,
-        ResolvedStmt::Do { directive, .. } => directive.is_none(),
-    }
-}
-
-/// Whether a parallel loop with this body is collapsed with the loop in it (OpenMP 5.2, 4.4.3).
-pub(crate) fn is_nest(directive: &Directive, body: &[ResolvedStmt]) -> bool
-    ensures value { (shapes : List LaidShape) → result ≡ is_nest_lem directive.now (statements_back shapes body.now) }
-    ensures one { result ≡ true → length body.now ≡ 1 }
-{
-    if directive.collapse != 2 {
-        return false;
-    }
-    if body.len() != 1 {
-        return false;
-    }
-    is_plain_loop(&body[0])
-}
 
 /// The head of a loop.
 fn loop_head(

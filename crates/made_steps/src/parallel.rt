@@ -8,16 +8,15 @@ ghost use Rattle.resolved.specs.ResolvedExprs.{slot_name, expression_back, is_wi
 ghost use Rattle.resolved.specs.ResolvedStmts.{option_back, is_option_within, statements_back, are_fit};
 ghost use Rattle.sweep_steps.specs.Steps.{around_tree};
 ghost use Rattle.sweep_steps.specs.StepsStand.{AroundStands};
-ghost use Rattle.made_steps.specs.Loops.{names_in, IsLoopNames};
-ghost use Rattle.made_steps.specs.Scopes.{IsScope, are_declared_placed, head_back};
+ghost use Rattle.loop_scopes.specs.Loops.{names_in, IsLoopNames};
+ghost use Rattle.loop_scopes.specs.Scopes.{IsScope, are_declared_placed};
+ghost use Rattle.made_steps.specs.Scopes.{head_back};
 
 use crate::heads::make_head;
-use crate::loops::{LoopNames, Loops};
-use crate::marks::Marks;
 use crate::nest::inner_head;
-use crate::privates::private_scalars;
 use fl_ast::{Directive, Memory};
 use fl_base::Boxed;
+use loop_scopes::{LoopNames, Loops, Marks, private_scalars};
 use resolved::{ResolvedHead, ResolvedStmt, SlotTable};
 use std::alloc::Global;
 use sweep_steps::Around;

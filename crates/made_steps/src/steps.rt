@@ -10,17 +10,15 @@ ghost use Rattle.resolved.specs.ResolvedExprs.{slot_name, expression_back, is_wi
 ghost use Rattle.resolved.specs.ResolvedStmts.{option_back, is_option_within, statement_back, statements_back, arms_back, is_fit, are_fit, are_arms_fit};
 ghost use Rattle.sweep_steps.specs.Steps.{step_tree, step_trees, step_arm_trees};
 ghost use Rattle.sweep_steps.specs.StepsStand.{Stands, AllStand, ArmsStand};
-ghost use Rattle.made_steps.specs.Loops.{names_in};
-ghost use Rattle.made_steps.specs.Scopes.{IsScope, IsOutside, are_declared_placed};
+ghost use Rattle.loop_scopes.specs.Loops.{names_in};
+ghost use Rattle.loop_scopes.specs.Scopes.{IsScope, IsOutside, are_declared_placed};
 
 use crate::heads::make_head;
-use crate::loops::{Loops, name_of};
-use crate::marks::Marks;
-use crate::nest::is_nest;
 use crate::parallel::{around_of, parallel_loop};
 use crate::store::store_step;
 use fl_ast::{Directive, Memory};
 use fl_base::{Boxed, Items};
+use loop_scopes::{Loops, Marks, is_nest, name_of};
 use resolved::{ResolvedArm, ResolvedHead, ResolvedStmt, SlotTable};
 use split_trees::split_condition;
 use std::alloc::Global;

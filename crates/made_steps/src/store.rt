@@ -12,13 +12,14 @@ ghost use Rattle.resolved.specs.ResolvedStmts.{form_in, same_form};
 ghost use Rattle.split_trees.specs.Codes.{is_kinded};
 ghost use Rattle.sweep_steps.specs.Steps.{store_tree, step_tree};
 ghost use Rattle.sweep_steps.specs.StepsStand.{StoreStands, Stands};
-ghost use Rattle.made_steps.specs.Scopes.{IsScope, TermsStand, term_trees};
+ghost use Rattle.loop_scopes.specs.Scopes.{IsScope};
+ghost use Rattle.made_steps.specs.Scopes.{TermsStand, term_trees};
 
-use crate::marks::Marks;
 use crate::terms::{chain_terms, sum_terms};
 use fl_ast::Memory;
 use fl_base::Items;
 use fl_types::{AccessKind, IncrementForm};
+use loop_scopes::Marks;
 use resolved::{ResolvedExpr, ResolvedPlace, SlotTable};
 use split_trees::{is_marked, split_expression, split_place};
 use std::alloc::Global;

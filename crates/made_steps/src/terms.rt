@@ -101,7 +101,7 @@ fn push_front(
 }
 
 /// The further terms of a chain that begins with the target.
-pub(crate) fn chain_terms(
+pub fn chain_terms(
     alloc: Global,
     table: &SlotTable,
     accessed: &[bool],
@@ -120,7 +120,7 @@ pub(crate) fn chain_terms(
 }
 
 /// The term of a sum whose second one is the target.
-pub(crate) fn sum_terms(
+pub fn sum_terms(
     alloc: Global,
     table: &SlotTable,
     accessed: &[bool],

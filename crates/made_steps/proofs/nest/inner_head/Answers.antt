@@ -3,7 +3,8 @@ use Rattle.std.specs.Prelude.{true, false}
 use Rattle.resolved.specs.ResolvedStmts.{statement_back, statements_back}
 use Rattle.sweep_steps.specs.Steps.{head_tree}
 use Rattle.sweep_steps.specs.StepsStand.{InnerStands}
-use Rattle.made_steps.proofs.Nesting.{nested, not_nested, head_stands}
+use Rattle.loop_scopes.proofs.Nesting.{nested, not_nested}
+use Rattle.made_steps.proofs.Nesting.{head_stands}
 use Rattle.made_steps.proofs.nest.inner_head.Goals as goal
 
 pub returns-then-not-is_nest : goal.returns-then-not-is_nest

@@ -4,7 +4,7 @@ use Rattle.resolved.specs.ResolvedStmts.{statements_back}
 use Rattle.sweep_steps.specs.Steps.{around_tree, head_tree, inner_tree}
 use Rattle.sweep_steps.specs.StepsStand.{AroundStands}
 use Rattle.made_steps.specs.Scopes.{head_back}
-use Rattle.made_steps.proofs.Scopes.{iterations_stand}
+use Rattle.made_steps.proofs.Arounds.{iterations_stand}
 use Rattle.made_steps.proofs.parallel.iterations_around.Goals as goal
 
 pub returns : goal.returns

@@ -6,11 +6,12 @@ use Rattle.resolved.specs.ResolvedStmts.{statements_back}
 use Rattle.sweep_steps.specs.declared.step.Around.{Around}
 use Rattle.sweep_steps.specs.Steps.{around_tree}
 use Rattle.sweep_steps.specs.StepsStand.{AroundStands}
-use Rattle.made_steps.specs.declared.loops.LoopNames.{LoopNames}
+use Rattle.loop_scopes.specs.declared.loops.LoopNames.{LoopNames}
 use Rattle.made_steps.specs.declared.parallel.ParallelLoop.{ParallelLoop}
-use Rattle.made_steps.specs.Loops.{names_in, IsLoopNames}
-use Rattle.made_steps.specs.Scopes.{IsScope, head_back}
-use Rattle.made_steps.proofs.Scopes.{iteration_scope}
+use Rattle.loop_scopes.specs.Loops.{names_in, IsLoopNames}
+use Rattle.loop_scopes.specs.Scopes.{IsScope}
+use Rattle.made_steps.specs.Scopes.{head_back}
+use Rattle.loop_scopes.proofs.Scopes.{iteration_scope}
 use Rattle.made_steps.proofs.parallel.parallel_loop.Goals as goal
 
 pub returns : goal.returns

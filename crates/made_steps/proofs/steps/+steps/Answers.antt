@@ -15,11 +15,12 @@ use Rattle.split_trees.specs.Codes.{TestStandsFor}
 use Rattle.sweep_steps.specs.declared.step.Around.{Around}
 use Rattle.sweep_steps.specs.Steps.{StepArm, around_tree, step_tree, step_trees, step_arm_trees}
 use Rattle.sweep_steps.specs.StepsStand.{AroundStands, Stands, AllStand, ArmsStand}
-use Rattle.made_steps.specs.declared.loops.Loops.{the_lemmas as loops_lemmas}
+use Rattle.loop_scopes.specs.declared.loops.Loops.{the_lemmas as loops_lemmas}
 use Rattle.made_steps.specs.declared.parallel.ParallelLoop.{ParallelLoop}
-use Rattle.made_steps.specs.Loops.{names_in}
-use Rattle.made_steps.specs.Scopes.{IsScope, head_back}
-use Rattle.made_steps.proofs.Nesting.{nest_body, plain_body}
+use Rattle.loop_scopes.specs.Loops.{names_in}
+use Rattle.loop_scopes.specs.Scopes.{IsScope}
+use Rattle.made_steps.specs.Scopes.{head_back}
+use Rattle.loop_scopes.proofs.Nesting.{nest_body, plain_body}
 use Rattle.made_steps.proofs.Making.{loop_is, pushed_front, all_stand, all_arms_stand, arms_fit, arms_kinded, arm_stands, do_is, do_kinded}
 use Rattle.made_steps.proofs.steps.+steps.Goals as goal
 

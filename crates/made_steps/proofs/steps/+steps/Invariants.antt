@@ -7,8 +7,8 @@ use Rattle.resolved.specs.SlotTables.{table_site}
 use Rattle.resolved.specs.ResolvedStmts.{statements_back, arms_back, are_fit, are_arms_fit}
 use Rattle.sweep_steps.specs.Steps.{Step, StepArm, step_trees, step_arm_trees}
 use Rattle.sweep_steps.specs.StepsStand.{AllStand, ArmsStand}
-use Rattle.made_steps.specs.Loops.{names_in}
-use Rattle.made_steps.specs.Scopes.{IsScope}
+use Rattle.loop_scopes.specs.Loops.{names_in}
+use Rattle.loop_scopes.specs.Scopes.{IsScope}
 use Rattle.made_steps.proofs.steps.+steps.Given as goal
 
 abbrev pub invariant-make_steps-loop-stmt : goal.invariant-make_steps-loop-stmt

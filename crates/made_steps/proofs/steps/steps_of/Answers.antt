@@ -1,5 +1,5 @@
 use Rattle.std.proofs.Common.{rules, ◌∙◌}
-use Rattle.made_steps.specs.declared.loops.Loops.{the_lemmas as loops_lemmas}
+use Rattle.loop_scopes.specs.declared.loops.Loops.{the_lemmas as loops_lemmas}
 use Rattle.made_steps.proofs.Making.{outside_scope}
 use Rattle.made_steps.proofs.steps.steps_of.Goals as goal
 

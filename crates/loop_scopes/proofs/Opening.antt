@@ -11,7 +11,7 @@ use Rattle.store_core.specs.Keys.{slot_of, scalar, laid, laid_all, with_scalars}
 use Rattle.store_core.proofs.Slots.{same_name}
 use Rattle.resolved.specs.SlotTables.{kind_at, kinds_of, names_of}
 use Rattle.resolved.specs.ResolvedExprs.{slot_name}
-use Rattle.made_steps.specs.Scopes.{are_declared_placed, OpeningIsOutside}
+use Rattle.loop_scopes.specs.Scopes.{are_declared_placed, OpeningIsOutside}
 
 -- ---- names stay where they are when a shape is laid
 

@@ -2,7 +2,7 @@ use Rattle.std.proofs.Common.{◌≡◌, ◌||◌, List, ℕ, drop}
 use Rattle.std.specs.Prelude.{true}
 use Rattle.fl_types.specs.Sharing.{has_name, assigns_in, assigns_in_arms}
 use Rattle.resolved.specs.ResolvedStmts.{statements_back, arms_back, are_fit, are_arms_fit}
-use Rattle.made_steps.proofs.loops.+assigned.Given as goal
+use Rattle.loop_scopes.proofs.loops.+assigned.Given as goal
 
 -- with those of the rest all are there
 abbrev pub invariant-mark_assigned-loop-stmt : goal.invariant-mark_assigned-loop-stmt

@@ -1,7 +1,7 @@
 -- The sites in loops, and the names of parallel loops.
-use Rattle.std.specs.Prelude.{◌≡◌, ℕ, ◌<◌, Bool, true, false, not, if◌then◌else◌, ◌&&◌, List, [], ◌∷◌, ◌++◌, map, filter, length, Option, Some, None, is_some, refl}
+use Rattle.std.specs.Prelude.{◌≡◌, ℕ, zero, suc, ◌<◌, Bool, true, false, not, if◌then◌else◌, ◌&&◌, List, [], ◌∷◌, ◌++◌, map, filter, length, Option, Some, None, is_some, refl}
 use Rattle.std.specs.List.{list_all}
-use Rattle.std.proofs.Common.{ap, sym, ◌∙◌, subst}
+use Rattle.std.proofs.Common.{ap, sym, ◌∙◌, subst, arith}
 use Rattle.std.proofs.lemmas.Bool.{and_parts}
 use Rattle.fl_ast.specs.declared.directive.Directive.{Directive}
 use Rattle.fl_ast.specs.Tree.{Statements}
@@ -15,14 +15,16 @@ use Rattle.resolved.specs.ResolvedExprs.{slot_name}
 use Rattle.resolved.proofs.Slots.{slot_stands}
 use Rattle.sweep_trees.specs.Standing.{is_accessed_at}
 use Rattle.sweep_steps.specs.declared.step.PrivateScalar.{PrivateScalar}
-use Rattle.sweep_steps.specs.StepsStand.{HeadStands, InnerStands, IterationsStand, PrivateStands, PrivatesStand}
-use Rattle.sweep_steps.specs.Steps.{HeadTree}
-use Rattle.fl_types.specs.Nests.{Head, further_head}
-use Rattle.meaning.specs.Statements.{private_names}
-use Rattle.made_steps.specs.declared.loops.LoopNames.{LoopNames}
-use Rattle.made_steps.specs.Loops.{class_by, accessed_by, IsLoopNames, private_by, privates_of}
-use Rattle.made_steps.specs.Scopes.{IsScope, are_declared_placed}
-use Rattle.made_steps.proofs.Stores.{marked_at}
+use Rattle.sweep_steps.specs.StepsStand.{PrivateStands, PrivatesStand}
+use Rattle.loop_scopes.specs.declared.loops.LoopNames.{LoopNames}
+use Rattle.loop_scopes.specs.Loops.{class_by, accessed_by, IsLoopNames, private_by, privates_of}
+use Rattle.loop_scopes.specs.Scopes.{IsScope}
+
+-- marks that are made from names tell of a slot what they tell of its name
+pub marked_at : (f : List ℕ → Bool) (shapes : List Shape) (slot : ℕ) → slot < length shapes → is_accessed_at (map (λ (s : Shape). f s.name) shapes) slot ≡ f (slot_name shapes slot)
+marked_at f [] slot h = absurd (omega (arith, h))
+marked_at f (s ∷ shapes) zero h = refl
+marked_at f (s ∷ shapes) (suc slot) h = marked_at f shapes slot (omega (arith, h))
 
 maps_same : {A B : Type 0} (f g : A → B) → ((x : A) → f x ≡ g x) → (xs : List A) → map f xs ≡ map g xs
 maps_same f g h [] = refl
@@ -102,18 +104,3 @@ privates_stand names pushed accessed reduced outer site l var directive body (x 
     let made = stand_by names pushed accessed reduced outer site l var directive body x _ _ (is_private (sharing_in var directive body x)) (slot_of names.0 x) s h refl p.0 rest in
     subst (λ k. PrivatesStand names site body (filter (λ y. is_private (sharing_in var directive body y)) (x ∷ xs)) ((if is_private k then private_by names pushed l x (slot_of names.0 x) else []) ++ privates_of names pushed l xs))
     (sym (class_is l outer var directive body h x)) made
-
--- what is around a parallel loop's body
-pub iterations_stand : (names : Names) (pushed accessed reduced : List Bool) (outer : List (List ℕ)) (site : Site) (l : LoopNames) (h : Head) (directive : Directive) (body : Statements)
-    (head : HeadTree) (inner : Option HeadTree) (qs : List PrivateScalar)
-    → IsScope names pushed accessed reduced outer site → IsLoopNames l outer h.var directive body → are_declared_placed names ≡ true
-    → HeadStands names accessed h head → InnerStands names accessed (further_head directive body) inner → qs ≡ privates_of names pushed l names.3
-    → IterationsStand names site directive h body head inner qs
-iterations_stand names pushed accessed reduced outer site l h directive body head inner qs s n d k i q =
-    record {
-      outer = subst (λ flags. HeadStands names flags h head) (sym s.accesses) k;
-      further = subst (λ flags. InnerStands names flags (further_head directive body) inner) (sym s.accesses) i;
-      scalars = subst (λ ps. PrivatesStand names site body (private_names site directive h.var body) ps) (sym q)
-          (subst (λ xs. PrivatesStand names site body (filter (λ x. is_private (sharing_in h.var directive body x)) xs) (privates_of names pushed l names.3)) (sym s.declares)
-          (privates_stand names pushed accessed reduced outer site l h.var directive body names.3 s n d));
-    }

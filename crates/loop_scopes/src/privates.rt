@@ -2,7 +2,7 @@ ghost use Rattle.std.specs.Prelude.{◌≡◌, ◌<◌, ◌&&◌, ◌++◌, [], 
 ghost use Rattle.fl_types.specs.Sharing.{has_name};
 ghost use Rattle.store_core.specs.Keys.{place_in_slot};
 ghost use Rattle.sweep_trees.specs.Standing.{is_accessed_at};
-ghost use Rattle.made_steps.specs.Loops.{private_of, privates_of};
+ghost use Rattle.loop_scopes.specs.Loops.{private_of, privates_of};
 
 use crate::loops::LoopNames;
 use fl_ast::{Memory, Name};
@@ -49,7 +49,7 @@ fn push_private(
 }
 
 /// The private scalars of a parallel loop, in the order of their declarations. Each declared name has a slot.
-pub(crate) fn private_scalars(
+pub fn private_scalars(
     alloc: Global,
     table: &SlotTable,
     pushed: &[bool],

@@ -4,8 +4,8 @@ use Rattle.resolved.specs.declared.resolved.ResolvedStmt.{the_lemmas as statemen
 use Rattle.resolved.specs.ResolvedExprs.{slot_name}
 use Rattle.resolved.specs.ResolvedStmts.{statements_back}
 use Rattle.resolved.proofs.Slots.{do_fit, do_back}
-use Rattle.made_steps.proofs.Sets.{marked_twice}
-use Rattle.made_steps.proofs.loops.+variables.Goals as goal
+use Rattle.loop_scopes.proofs.Sets.{marked_twice}
+use Rattle.loop_scopes.proofs.loops.+variables.Goals as goal
 
 pub mark_variables_in-mark_variables-requires-in-Do : goal.mark_variables_in-mark_variables-requires-in-Do
 mark_variables_in-mark_variables-requires-in-Do t c = (

@@ -9,10 +9,10 @@ use Rattle.store_core.specs.Keys.{slot_of, place_in_slot}
 use Rattle.resolved.specs.SlotTables.{Names}
 use Rattle.sweep_trees.specs.Standing.{is_accessed_at}
 use Rattle.sweep_steps.specs.declared.step.PrivateScalar.{PrivateScalar}
-use Rattle.made_steps.specs.declared.loops.Loops.{Loops, fold-Loops}
-use Rattle.made_steps.specs.declared.loops.Loops.TheOpen.{Loops-F}
-use Rattle.made_steps.specs.declared.loops.LoopNames.{LoopNames}
-use Rattle.made_steps.specs.declared.loops.ClauseNames.{ClauseNames}
+use Rattle.loop_scopes.specs.declared.loops.Loops.{Loops, fold-Loops}
+use Rattle.loop_scopes.specs.declared.loops.Loops.TheOpen.{Loops-F}
+use Rattle.loop_scopes.specs.declared.loops.LoopNames.{LoopNames}
+use Rattle.loop_scopes.specs.declared.loops.ClauseNames.{ClauseNames}
 
 abbrev pub names_level : Loops-F (List (List ℕ)) → List (List ℕ)
 names_level Loops-F.Outside = []

@@ -1,7 +1,7 @@
 ghost use Rattle.std.specs.Prelude.{◌≡◌, false, map, IfOk};
 ghost use Rattle.fl_types.specs.Sharing.{is_plus};
 ghost use Rattle.store_core.specs.declared.layout.Shape.{Shape as LaidShape};
-ghost use Rattle.made_steps.specs.Loops.{class_by, accessed_by};
+ghost use Rattle.loop_scopes.specs.Loops.{class_by, accessed_by};
 
 use crate::loops::LoopNames;
 use fl_base::{Items, Memory};
@@ -11,9 +11,9 @@ use store_core::Shape;
 
 /// Marks by slot: which names make accesses, and which of these are reductions.
 #[derive(Drop)]
-pub(crate) struct Marks {
-    pub(crate) accessed: Items<bool>,
-    pub(crate) reduced: Items<bool>,
+pub struct Marks {
+    pub accessed: Items<bool>,
+    pub reduced: Items<bool>,
 }
 
 fn accessed_marks(
@@ -56,7 +56,7 @@ fn no_marks(alloc: Global, shapes: &[Shape]) -> Result<Items<bool>, Memory>
 
 impl Marks {
     /// Outside of parallel loops nothing is marked.
-    pub(crate) fn outside(alloc: Global, shapes: &[Shape]) -> Result<Marks, Memory>
+    pub fn outside(alloc: Global, shapes: &[Shape]) -> Result<Marks, Memory>
         ensures accessed { IfOk result (λ marks. marks.accessed ≡ map (λ (s : LaidShape). false) shapes.now) }
         ensures reduced { IfOk result (λ marks. marks.reduced ≡ map (λ (s : LaidShape). false) shapes.now) }
     {
@@ -66,11 +66,7 @@ impl Marks {
     }
 
     /// In a parallel loop.
-    pub(crate) fn inside(
-        alloc: Global,
-        table: &SlotTable,
-        names: &LoopNames<'_>,
-    ) -> Result<Marks, Memory>
+    pub fn inside(alloc: Global, table: &SlotTable, names: &LoopNames<'_>) -> Result<Marks, Memory>
         ensures accessed { IfOk result (λ marks. marks.accessed ≡ map (λ (s : LaidShape). accessed_by names.now s.name) table.now.0) }
         ensures reduced { IfOk result (λ marks. marks.reduced ≡ map (λ (s : LaidShape). is_plus (class_by names.now s.name)) table.now.0) }
     {

@@ -4,7 +4,7 @@ ghost use Rattle.std.specs.Prelude.{◌≡◌, ◌<◌, ◌||◌, ℕ, true, not
 ghost use Rattle.fl_types.specs.Sharing.{has_name, varies as varies_lem, varies_in, varies_in_arms, assigns, assigns_in, assigns_in_arms, is_accessed as is_accessed_lem, is_plus as is_plus_lem, is_private as is_private_lem};
 ghost use Rattle.resolved.specs.ResolvedExprs.{slot_name};
 ghost use Rattle.resolved.specs.ResolvedStmts.{statement_back, statements_back, arms_back, is_fit, are_fit, are_arms_fit};
-ghost use Rattle.made_steps.specs.Loops.{names_in, class_by, AreClauseNames, IsLoopNames};
+ghost use Rattle.loop_scopes.specs.Loops.{names_in, class_by, AreClauseNames, IsLoopNames};
 
 use fl_ast::{Directive, Memory, Name};
 use fl_base::Boxed;
@@ -15,7 +15,7 @@ use std::alloc::Global;
 
 /// The variables of the loops around a statement, the innermost first.
 #[derive(Clone, Copy)]
-pub(crate) enum Loops<'a, 't> {
+pub enum Loops<'a, 't> {
     Outside,
     Inside {
         var: &'t Name,
@@ -38,7 +38,7 @@ impl<'a, 't> Loops<'a, 't> {
     }
 }
 
-pub(crate) fn name_of(table: &SlotTable, slot: usize) -> &Name
+pub fn name_of(table: &SlotTable, slot: usize) -> &Name
     requires { slot < length table.now.0 }
     ensures { result.now ≡ slot_name table.now.0 slot }
 {
@@ -160,7 +160,7 @@ fn mark_assigned_in_arms<'t>(
 
 /// The names of a parallel loop by what they are there, each found by search.
 #[derive(Drop)]
-pub(crate) struct LoopNames<'t> {
+pub struct LoopNames<'t> {
     outer: Keys<'t>,
     variables: Keys<'t>,
     privates: Keys<'t>,
@@ -245,7 +245,7 @@ fn clause_names<'t>(
 
 impl<'t> LoopNames<'t> {
     /// The names of a parallel loop with this variable and body, in these loops.
-    pub(crate) fn of(
+    pub fn of(
         alloc: Global,
         table: &'t SlotTable,
         loops: &Loops<'_, 't>,
@@ -295,14 +295,14 @@ impl<'t> LoopNames<'t> {
     }
 
     /// Whether an occurrence of the name is an access.
-    pub(crate) fn makes_accesses(&self, name: &Name) -> bool
+    pub fn makes_accesses(&self, name: &Name) -> bool
         ensures { result ≡ (not (has_name name.now self.now.outer) && is_accessed_lem (class_by self.now name.now)) }
     {
         !self.outer.has(name) && is_accessed(self.class(name))
     }
 
     /// Whether the name is a reduction's.
-    pub(crate) fn is_reduced(&self, name: &Name) -> bool
+    pub fn is_reduced(&self, name: &Name) -> bool
         ensures { result ≡ is_plus_lem (class_by self.now name.now) }
     {
         match self.class(name) {
@@ -312,7 +312,7 @@ impl<'t> LoopNames<'t> {
     }
 
     /// Whether iterations have the name of their own.
-    pub(crate) fn is_private(&self, name: &Name) -> bool
+    pub fn is_private(&self, name: &Name) -> bool
         ensures { result ≡ is_private_lem (class_by self.now name.now) }
     {
         match self.class(name) {
@@ -322,7 +322,7 @@ impl<'t> LoopNames<'t> {
     }
 
     /// Whether the loop assigns the name.
-    pub(crate) fn is_assigned(&self, name: &Name) -> bool
+    pub fn is_assigned(&self, name: &Name) -> bool
         ensures { result ≡ has_name name.now self.now.assigned }
     {
         self.assigned.has(name)

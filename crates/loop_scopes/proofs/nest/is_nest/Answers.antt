@@ -1,8 +1,8 @@
 use Rattle.std.proofs.Common.{◌≡◌, ◌∙◌, sym, length, rules, arith}
 use Rattle.std.specs.Prelude.{true, nat_eq}
 use Rattle.std.proofs.lemmas.Bool.Decides.{nat_tests}
-use Rattle.made_steps.proofs.Nesting.{not_one, one_is}
-use Rattle.made_steps.proofs.nest.is_nest.Goals as goal
+use Rattle.loop_scopes.proofs.Nesting.{not_one, one_is}
+use Rattle.loop_scopes.proofs.nest.is_nest.Goals as goal
 
 pub returns-then-body-ne1-clause-value : goal.returns-then-body-ne1-clause-value
 returns-then-body-ne1-clause-value c = λ shapes. sym (not_one shapes c.args.directive.now c.args.body.now (λ h. search (rules, h)))

@@ -1,0 +1,4 @@
+pub mod Nesting
+pub mod Opening
+pub mod Scopes
+pub mod Sets
