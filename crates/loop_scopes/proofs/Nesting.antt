@@ -1,7 +1,7 @@
 -- A parallel loop whose body is one loop.
 use Rattle.std.specs.Prelude.{◌≡◌, Bool, true, false, ◌&&◌, nat_eq, List, [], ◌∷◌, length, refl}
 use Rattle.std.proofs.Common.{ap, sym, ◌∙◌, get_or, subst}
-use Rattle.std.specs.Prelude.{if◌then◌else◌, Option, Some, None}
+use Rattle.std.specs.Prelude.{if◌then◌else◌, Option, None}
 use Rattle.fl_ast.specs.declared.directive.Directive.{Directive}
 use Rattle.fl_ast.specs.Tree.{Statements}
 use Rattle.fl_types.specs.Nests.{Head, is_plain_loop, is_nest, head_of, further_head, statements_in, iteration_body}
