@@ -1,0 +1,5 @@
+pub mod Arounds
+mod Examples
+pub mod Making
+pub mod Opening
+pub mod Terms
