@@ -1,3 +1,4 @@
 pub mod Flat
 pub mod Entering
 pub mod Ending
+pub mod Lasting

@@ -5,7 +5,11 @@ mod entry;
 mod opening;
 mod stop;
 mod sweep;
+mod values;
+mod watched;
 
 pub use opening::{Opened, open_program};
 pub use stop::ForwardStop;
 pub use sweep::{Forwarded, forward};
+pub use values::final_values;
+pub use watched::forward_watched;
