@@ -1,7 +1,7 @@
 -- An accepted program with its sets of names is set up as the law wants it.
 use Rattle.std.proofs.Common.{◌≡◌, ◌⊎◌, inl, inr, ℕ, ◌<◌, ◌^◌, Bool, true, false, not, ◌&&◌, ◌||◌, if◌then◌else◌, cond, bytes_eq, List, [], ◌∷◌, ◌++◌, filter, find, map, length, Option, Some, None, Ok, Err, refl, ap, sym, subst, ◌∙◌, arith}
 use Rattle.std.specs.List.{list_any, list_all}
-use Rattle.std.proofs.lemmas.Bool.{and_parts, and_from, or_right, or_from, true_from_ne_false}
+use Rattle.std.proofs.lemmas.Bool.{and_parts, and_from, or_right, or_from, true_from_ne_false, cases_lt}
 use Rattle.fl_base.specs.Spelling.{is_name}
 use Rattle.fl_ast.specs.Words.{reserved_words}
 use Rattle.fl_ast.specs.declared.kind.Kind.TheVariants.{Index, Ring}
@@ -34,7 +34,7 @@ use Rattle.typing.proofs.Faultless.{Clean, apart, at_first}
 use Rattle.typing.proofs.TypedLaws.{typed}
 use Rattle.transposition.specs.Worlds.{name_at}
 use Rattle.sound_programs.specs.Uses.{is_varied, is_useful, is_own, all_keep_variables, AreFitting}
-use Rattle.sound_programs.specs.Accepted.{IsAccepted, PlacesFit, LayoutsFit, ProgramsAreSound, AskedNamesFit}
+use Rattle.sound_programs.specs.Accepted.{IsAccepted, PlacesFit, LayoutsFit, PlacesSuffice, ProgramsAreSound, AskedNamesFit}
 use Rattle.sound_programs.proofs.Lists.{each_both, no_not, at_test, never, fails, or_to, not_yes, same_name, has_in, in_left, in_right, in_map, in_filter, filter_meets}
 use Rattle.sound_programs.proofs.Layouts.{is_laid, own_standing, low_name, high_unlaid}
 use Rattle.sound_programs.proofs.PlacedNames.{IsCleanBody, known_turned, scoped_local, laid_unscoped, unscoped_laid, scalar_shared}
@@ -232,6 +232,20 @@ places_fit p values r t = record {
     high : (x : List ℕ) → (x ≡ []) ⊎ ((is_laid x (shapes_of p values) ≡ false) × (list_any (λ (d : Decl). bytes_eq x d.name) p.decls ≡ true)) → (x ≡ []) ⊎ (is_own p x ≡ true)
     high x (inl e) = inl e
     high x (inr k) = inr (true_from_ne_false (is_own p x) (λ s. never (is_laid x (shapes_of p values)) (unscoped_laid p c values x (known_turned p.decls x ∙ k.1) s) k.0))
+
+pub places_suffice : PlacesSuffice
+places_suffice p of wrt values vs s r t h q v e n =
+    elim (cases_lt q (length (keys_of (shapes_of p values)))) [
+      | inl k ↦ h q v k e
+      | inr k ↦ absurd (unneeded (name_at keys q) (and_parts (is_needed p (is_active p of wrt) (name_at keys q)) (not (is_own p (name_at keys q))) n) ((places_fit p values r t).high q k))
+    ]
+  where
+    keys : List Key
+    keys = keys_of (with_scalars (shapes_of p values) p.decls)
+
+    unneeded : (x : List ℕ) → (is_needed p (is_active p of wrt) x ≡ true) × (not (is_own p x) ≡ true) → (x ≡ []) ⊎ (is_own p x ≡ true) → ⊥
+    unneeded x d (inl n) = never (is_declared p.decls x) (needed_known p (is_active p of wrt) x d.0) (ap (is_declared p.decls) n ∙ nameless p.decls r.decls)
+    unneeded x d (inr o) = never (is_own p x) o (not_yes (is_own p x) d.1)
 
 -- ---- set up
 

@@ -11,9 +11,10 @@ use Rattle.store_core.specs.Keys.{keys_of, same_key, first_at}
 use Rattle.store_core.specs.declared.values.Entry.{Entry}
 use Rattle.store_core.specs.Places.{shapes_of}
 use Rattle.meaning.specs.declared.value.Dual.{Dual}
+use Rattle.meaning.specs.declared.value.Value.{Value}
 use Rattle.meaning.specs.declared.value.Value.TheVariants.{Ring}
 use Rattle.meaning.specs.Logs.{events}
-use Rattle.meaning.specs.Sites.{Key, Cells}
+use Rattle.meaning.specs.Sites.{Key, Cells, word_of}
 use Rattle.meaning.specs.Expressions.{content}
 use Rattle.meaning.specs.Stops.{Limits, by_conflict, at_end, first_stop}
 use Rattle.meaning.specs.Adjoints.{cells_along, unit}
@@ -87,6 +88,13 @@ pub record NamesFit (p : Program) (of wrt : List (List ℕ)) : Type 0 where
 
 abbrev pub AskedNamesFit : Type 0
 AskedNamesFit = (p : Program) (of wrt : List (List ℕ)) → IsAccepted p of wrt → NamesFit p of wrt
+
+-- the needed values are those of places of the layout: who has their words is like the cells
+abbrev pub PlacesSuffice : Type 0
+PlacesSuffice =
+    (p : Program) (of wrt : List (List ℕ)) (values : List Entry) (vs : List ℕ) (s : Cells) → IsReadable p → judged p ≡ Ok p
+    → ((q : ℕ) (v : Value) → q < length (keys_of (shapes_of p values)) → content s q ≡ Some v → slice_index vs q ≡ word_of (Some v))
+    → Like (outer_use p of wrt) (entry_site (program_tree p) (shapes_of p values) no_pushes).keys vs s
 
 -- the choices that are made where nothing is known of which iterations meet
 abbrev pub made_choices : Program → (of wrt : List (List ℕ)) → ℕ → List ℕ → Choice

@@ -1,4 +1,4 @@
-ghost use Rattle.sound_programs.specs.Accepted.{AcceptedIsTransposed, AskedNamesFit, InactiveIsZero, LayoutsFit, MadeChoicesFit, MadeIsTransposed, ParallelLoopsFit, ProgramsAreSound};
+ghost use Rattle.sound_programs.specs.Accepted.{AcceptedIsTransposed, AskedNamesFit, InactiveIsZero, LayoutsFit, MadeChoicesFit, MadeIsTransposed, ParallelLoopsFit, PlacesSuffice, ProgramsAreSound};
 
 /// What the law of transposition asks of the names of a program, statement by statement, holds of every accepted program in which no
 /// parallel loop lists the variable of a loop around it as private: from typing, from the active and the needed names, and from choices
@@ -43,4 +43,9 @@ pub fn layouts_fit()
 /// No parallel loop of a typed program is in another, and each has a number of its own. It does nothing.
 pub fn parallel_loops_fit()
     ensures { ParallelLoopsFit }
+{}
+
+/// Who has the words of all places of the layout has those of the needed names. It does nothing.
+pub fn places_suffice()
+    ensures { PlacesSuffice }
 {}

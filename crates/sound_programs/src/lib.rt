@@ -5,5 +5,5 @@ mod laws;
 
 pub use laws::{
     accepted_is_transposed, asked_names_fit, inactive_is_zero, layouts_fit, made_choices_fit,
-    made_is_transposed, parallel_loops_fit, programs_are_sound,
+    made_is_transposed, parallel_loops_fit, places_suffice, programs_are_sound,
 };
