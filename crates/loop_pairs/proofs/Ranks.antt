@@ -1,5 +1,5 @@
 -- The forms of a loop's accesses are as many as the accesses, and each list of them as long as the access's subscripts.
-use Rattle.std.proofs.Common.{◌≡◌, ℕ, suc, ◌+◌, Bool, true, false, ◌||◌, if◌then◌else◌, List, [], ◌∷◌, ◌++◌, length, map, Option, Some, None, refl, sym, ap, ◌∙◌, append_assoc, arith}
+use Rattle.std.proofs.Common.{◌≡◌, ℕ, suc, ◌+◌, Bool, true, false, if◌then◌else◌, List, [], ◌∷◌, ◌++◌, length, map, Option, Some, None, refl, sym, ap, ◌∙◌, append_assoc, arith}
 use Rattle.std.proofs.lemmas.List.{map-append, append-nil}
 use Rattle.fl_ast.specs.declared.decl.Decl.{Decl}
 use Rattle.fl_ast.specs.Tree.{Expression, literal, get, minus, binary, power, call, Expressions, no_expressions, expression, Designator, Condition, relation, negation, conjunction, disjunction, Statement, assignment, branch, loop, Statements, no_statements, statement, Arms, no_arms, arm}
@@ -15,7 +15,7 @@ use Rattle.index_forms.specs.declared.form.Side.{Side}
 use Rattle.index_forms.specs.Form.{Forms}
 use Rattle.index_forms.specs.Formed.{Known, Viewed, formed, formed_all, subscript_forms}
 use Rattle.index_forms.specs.Loops.{HeadedLoop, written_in, inside, known_at_start, is_fixed}
-use Rattle.index_forms.specs.Walk.{Setting, Rest, viewed, without, known_after, known_inside, with_group, bounds_reads, with_statement, with_statements, with_arms, setting_of, loop_forms}
+use Rattle.index_forms.specs.Walk.{Setting, Rest, viewed, without, known_after, known_inside, with_group, bounds_reads, with_statement, with_statements, with_arms, loop_forms}
 use Rattle.certificate_rules.specs.Surveys.{count_of}
 
 abbrev pub rank_of : Occurrence → ℕ

@@ -1,6 +1,6 @@
 -- What is known of a loop of a typed program is a survey.
-use Rattle.std.proofs.Common.{rules, ◌≡◌, ℕ, zero, suc, ◌+◌, Bool, true, false, not, ◌&&◌, ◌||◌, if◌then◌else◌, List, [], ◌∷◌, length, map, Option, Some, None, refl, sym, ap, ◌∙◌, subst, arith}
-use Rattle.std.specs.Prelude.{bytes_eq, nat_eq, IsTrue}
+use Rattle.std.proofs.Common.{rules, ◌≡◌, ℕ, zero, suc, ◌+◌, Bool, true, false, not, ◌&&◌, ◌||◌, List, [], ◌∷◌, length, map, Option, Some, None, refl, sym, ap, ◌∙◌, subst, arith}
+use Rattle.std.specs.Prelude.{bytes_eq, nat_eq}
 use Rattle.std.specs.List.{list_any, AllByRecursion}
 use Rattle.std.proofs.lemmas.Bool.{eqb-true}
 use Rattle.std.proofs.lemmas.Slice.Eq.{bytes_eq-Decides}
@@ -20,10 +20,10 @@ use Rattle.index_forms.specs.declared.form.Side.TheVariants.{One, Two}
 use Rattle.index_forms.specs.Form.{Forms}
 use Rattle.index_forms.specs.Loops.{HeadedLoop, inside}
 use Rattle.index_forms.specs.Walk.{loop_forms}
-use Rattle.certificate_rules.specs.Surveys.{Survey, numbered, count_of, HaveOneRank, IsSurvey}
+use Rattle.certificate_rules.specs.Surveys.{Survey, numbered, count_of, IsSurvey}
 use Rattle.certificate_check.specs.Pairs.{KnownLoop}
 use Rattle.loop_scenes.specs.Loops.{loops_by_all}
-use Rattle.loop_pairs.specs.Known.{IsSurveyOf, IsKnown, AreKnown, AreSurveys}
+use Rattle.loop_pairs.specs.Known.{IsSurveyOf, AreKnown, AreSurveys}
 use Rattle.loop_pairs.proofs.Ranks.{rank_of, ranks, counts, loop_counts}
 use Rattle.loop_pairs.proofs.Forms.{as_many}
 use Rattle.loop_pairs.proofs.Typed.{left_of, right_of, IsRanked, of_statements, IsWell, well_by_all}

@@ -1,6 +1,5 @@
 -- Each access of a typed program has as many subscripts as its name has dimensions.
-use Rattle.std.proofs.Common.{◌≡◌, ℕ, suc, ◌+◌, Bool, true, false, not, ◌&&◌, ◌||◌, if◌then◌else◌, List, [], ◌∷◌, ◌++◌, length, Option, Some, None, refl, sym, ap, ◌∙◌, subst}
-use Rattle.std.specs.Prelude.{bytes_eq, nat_eq}
+use Rattle.std.proofs.Common.{◌≡◌, ℕ, ◌+◌, Bool, true, false, ◌&&◌, if◌then◌else◌, List, [], ◌∷◌, ◌++◌, Option, Some, None, refl}
 use Rattle.std.specs.List.{list_all, AllByRecursion}
 use Rattle.fl_ast.specs.declared.kind.BinOp.TheVariants as op
 use Rattle.fl_ast.specs.declared.directive.Directive.{Directive}
@@ -11,7 +10,7 @@ use Rattle.fl_types.specs.declared.access.AccessKind.TheVariants.{Read, Write}
 use Rattle.fl_types.specs.declared.access.PathStep.{PathStep}
 use Rattle.fl_types.specs.declared.access.PathStep.TheVariants as step
 use Rattle.fl_types.specs.Increment.{Signed, target_of, chain, longer, first_of_sum, are_free_of, if_free, either, rest_terms, increment_terms}
-use Rattle.fl_types.specs.Kinds.{Names, expression_count, kind_of_name, kind_of_expression, kinds_of_expressions, is_index_kind, takes_operands, takes_arguments, takes_value, is_well_kinded, are_well_kinded, is_well_kinded_condition, is_index_expression, is_index_step, is_index_scalar, has_scalar_privates, is_well_kinded_assignment, is_well_kinded_head, is_well_kinded_statement, are_well_kinded_statements, are_well_kinded_arms}
+use Rattle.fl_types.specs.Kinds.{Names, expression_count, kind_of_name, kind_of_expression, kinds_of_expressions, is_index_kind, takes_operands, takes_arguments, takes_value, is_well_kinded, are_well_kinded, is_well_kinded_condition, is_index_expression, is_index_step, is_index_scalar, has_scalar_privates, is_well_kinded_head, is_well_kinded_statement, are_well_kinded_statements, are_well_kinded_arms}
 use Rattle.fl_types.specs.Nests.{is_nest, inner_body, iteration_body}
 use Rattle.fl_types.specs.Accesses.{Scope, Occurrence, access, reads, reads_all, condition_reads, step_reads, term_reads, increment_kind, assignment_accesses, statement_count, statements_count, test_path, accesses, accesses_all, arms_accesses}
 use Rattle.index_forms.specs.Loops.{HeadedLoop, inside}

@@ -5,3 +5,4 @@ pub mod Lists
 pub mod Trees
 pub mod Scenes
 pub mod Loops
+mod Examples

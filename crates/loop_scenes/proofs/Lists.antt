@@ -1,5 +1,5 @@
 -- Lists at the end of a walk, and in parts.
-use Rattle.std.proofs.Common.{drop_of_length-le, drop, length, ◌≤◌, ◌≡◌, ℕ, List, [], ◌∷◌, ◌++◌, refl, ap, sym, ◌∙◌, append_assoc}
+use Rattle.std.proofs.Common.{drop_of_length-le, drop, length, ◌≤◌, ◌≡◌, ℕ, List, [], ◌∷◌, ◌++◌, ap, sym, ◌∙◌, append_assoc}
 use Rattle.std.proofs.lemmas.List.{append-nil}
 
 pub finished : {X Y : Type 0} (f : List X → List Y) → f [] ≡ [] → (xs : List X) (i : ℕ) (now old : List Y) → now ++ f (drop i xs) ≡ old ++ f xs → length xs ≤ i → now ≡ old ++ f xs

@@ -2,16 +2,13 @@
 use Rattle.std.proofs.Common.{◌≡◌, ℕ, Bool, true, false, not, ◌&&◌, ◌||◌, if◌then◌else◌, List, [], ◌∷◌, ◌++◌, option_map, Option, Some, None, refl, sym, ap, ◌∙◌}
 use Rattle.std.specs.Prelude.{bytes_eq}
 use Rattle.fl_ast.specs.declared.decl.Decl.{Decl}
-use Rattle.fl_ast.specs.declared.directive.Directive.{Directive}
-use Rattle.fl_ast.specs.declared.kind.Kind.{Kind}
-use Rattle.fl_ast.specs.declared.kind.Kind.TheVariants as kind
 use Rattle.fl_ast.specs.Tree.{Statement, assignment, branch, loop, Statements, no_statements, statement, Arms, no_arms, arm}
 use Rattle.fl_types.specs.declared.sharing.Sharing.TheVariants.{Shared, Private, First, Plus, LoopVar}
 use Rattle.fl_types.specs.Nests.{Head}
 use Rattle.fl_types.specs.Sharing.{has_name, is_ring_kind, is_ring_name, varies, varies_in, varies_in_arms, is_accessed, makes_accesses, ParallelLoop}
 use Rattle.fl_types.specs.Accesses.{Scope}
 use Rattle.index_forms.specs.declared.form.Side.{Side}
-use Rattle.index_forms.specs.Form.{Form, Forms, start, iter}
+use Rattle.index_forms.specs.Form.{Form, start, iter}
 use Rattle.index_forms.specs.Formed.{Known}
 use Rattle.index_forms.specs.Loops.{HeadedLoop, names_by, names_in, names_in_arms, written_in, inside, further, known_of_further, variable_form, known_at_start, forms_scope, is_fixed}
 use Rattle.index_forms.specs.Scenes.{is_shared, is_fixed_there, further_form, setting_there, known_there}

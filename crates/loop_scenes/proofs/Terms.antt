@@ -3,9 +3,8 @@ use Rattle.std.proofs.Common.{◌≡◌, ℕ, Bool, true, false, if◌then◌els
 use Rattle.std.proofs.lemmas.List.{append-nil}
 use Rattle.fl_ast.specs.declared.kind.BinOp.{BinOp}
 use Rattle.fl_ast.specs.declared.kind.BinOp.TheVariants.{Add, Sub, Mul, Div}
-use Rattle.fl_ast.specs.Tree.{Expression, binary, Expressions, Designator}
+use Rattle.fl_ast.specs.Tree.{Expression, binary, Designator}
 use Rattle.fl_ast.specs.Same.{same_expression}
-use Rattle.fl_types.specs.declared.increment.IncrementForm.{IncrementForm}
 use Rattle.fl_types.specs.declared.increment.IncrementForm.TheVariants.{Chain, Sum}
 use Rattle.fl_types.specs.Accesses.{Scope}
 use Rattle.index_forms.specs.Increments.{adds_terms}

@@ -1,3 +1,5 @@
 pub mod Numbered
 pub mod Pairs
+pub mod Forms
 pub mod Sound
+mod Examples

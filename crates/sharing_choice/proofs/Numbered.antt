@@ -1,5 +1,5 @@
 -- Loops by their numbers.
-use Rattle.std.proofs.Common.{◌≡◌, ℕ, Bool, false, List, Option, Some, None, sym, ap, ◌∙◌}
+use Rattle.std.proofs.Common.{◌≡◌, ℕ, Bool, false, List, Option, Some, None, ap, ◌∙◌}
 use Rattle.std.specs.Prelude.{option_map}
 use Rattle.certificate.specs.declared.derivation.Given.{Given}
 use Rattle.certificate_rules.specs.Surveys.{numbered}

@@ -1,5 +1,5 @@
 -- What a Shared choice says.
-use Rattle.std.proofs.Common.{◌≡◌, ℕ, Bool, true, false, ◌&&◌, if◌then◌else◌, List, [], ◌∷◌, map, Option, Some, None, is_some, refl, sym, ap, ◌∙◌, subst}
+use Rattle.std.proofs.Common.{◌≡◌, ℕ, Bool, true, false, ◌&&◌, if◌then◌else◌, List, [], ◌∷◌, map, Option, Some, None, is_some, refl, ap, ◌∙◌, subst}
 use Rattle.std.specs.List.{list_all, AllByRecursion}
 use Rattle.fl_types.specs.declared.choice.Choice.{Choice}
 use Rattle.fl_types.specs.declared.choice.Choice.TheVariants.{Shared, Atomic, Reduction}
@@ -18,7 +18,8 @@ use Rattle.acceptance.specs.Told.{derivation_told}
 use Rattle.certificate_check.specs.Pairs.{KnownLoop}
 use Rattle.certificate_check.specs.Flaws.{Loops}
 use Rattle.sharing_choice.specs.Choosing.{pairs_of, is_for, given_for, derivation_for, is_shown, are_shown, raised, chosen}
-use Rattle.sharing_choice.specs.Shown.{IsApart, HoldsOf}
+use Rattle.sharing_choice.specs.Shown.{HasForms, IsApart, HoldsOf}
+use Rattle.sharing_choice.proofs.Forms.{pairs_have}
 
 abbrev some_or : {A : Type 0} → A → Option A → A
 some_or d None = d
@@ -49,20 +50,22 @@ derivation_accepted k gs p d h = by_case (stated k.survey p) refl h
     by_case None e q = given_accepted k gs p d q
     by_case (Some x) e q = stated-accepted k.survey p d (e ∙ q)
 
-shown_apart : (k : KnownLoop) (gs : List Given) (p : KnownPair) → is_shown k gs p ≡ true → IsApart k p
-shown_apart k gs p h = by_case (derivation_for k gs p) refl h
+shown_apart : (k : KnownLoop) (gs : List Given) (p : KnownPair) → HasForms k p → is_shown k gs p ≡ true → IsApart k p
+shown_apart k gs p w h = by_case (derivation_for k gs p) refl h
   where
     by_case : (o : Option Derived) → derivation_for k gs p ≡ o → is_some o ≡ true → IsApart k p
     by_case None e q = cc
     by_case (Some d) e q = record {
       derived = d;
       accepted = derivation_accepted k gs p d e;
-      disjoint = λ f g s r. accepted-disjoint k.survey p f g d s r (derivation_accepted k gs p d e);
+      forms = w;
+      disjoint = λ s. accepted-disjoint k.survey p w.ones w.twos d s w.of_pair (derivation_accepted k gs p d e);
     }
 
-all_apart : (k : KnownLoop) (gs : List Given) (ps : List KnownPair) → list_all (is_shown k gs) ps ≡ true → AllByRecursion (IsApart k) ps
-all_apart k gs [] h = tt
-all_apart k gs (p ∷ ps) h = (shown_apart k gs p (left_of (is_shown k gs p) (list_all (is_shown k gs) ps) h), all_apart k gs ps (right_of (is_shown k gs p) (list_all (is_shown k gs) ps) h))
+all_apart : (k : KnownLoop) (gs : List Given) (ps : List KnownPair) → AllByRecursion (HasForms k) ps → list_all (is_shown k gs) ps ≡ true → AllByRecursion (IsApart k) ps
+all_apart k gs [] w h = tt
+all_apart k gs (p ∷ ps) w h =
+    (shown_apart k gs p w.0 (left_of (is_shown k gs p) (list_all (is_shown k gs) ps) h), all_apart k gs ps w.1 (right_of (is_shown k gs p) (list_all (is_shown k gs) ps) h))
 
 raised_shared : (b : Bool) (c : Choice) → raised b c ≡ Shared → b ≡ true
 raised_shared true c h = refl
@@ -76,7 +79,7 @@ in_loop gs names ls n h = by_case (numbered ls n) refl h
     by_case : (o : Option (Option KnownLoop)) → numbered ls n ≡ o → are_shown gs names o ≡ true → (k : KnownLoop) × (numbered ls n ≡ Some (Some k)) × AllByRecursion (IsApart k) (pairs_of names k)
     by_case None e q = cc
     by_case (Some None) e q = cc
-    by_case (Some (Some k)) e q = (k, e, all_apart k gs (pairs_of names k) q)
+    by_case (Some (Some k)) e q = (k, e, all_apart k gs (pairs_of names k) (pairs_have names k) q)
 
 pub all_hold : (ls : Loops) (gs : List Given) (cs : List Chosen) → AllByRecursion (HoldsOf ls) (map (chosen ls gs) cs)
 all_hold ls gs [] = tt

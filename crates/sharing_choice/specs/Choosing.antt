@@ -17,6 +17,8 @@ use Rattle.acceptance.specs.Told.{derivation_told}
 use Rattle.certificate_check.specs.Pairs.{KnownLoop, pair_at}
 use Rattle.certificate_check.specs.Flaws.{Loops}
 use Rattle.adjoint_choices.specs.Choosing.{choices_of}
+use Rattle.sharing_choice.specs.declared.derivations.Which.{Which}
+use Rattle.sharing_choice.specs.declared.derivations.Which.TheVariants as which
 
 -- ---- pairs
 
@@ -79,20 +81,24 @@ chosen ls gs c = record { loop_number = c.loop_number; name = c.name; choice = r
 abbrev pub shared_choices : Program → (active : List ℕ → Bool) → Loops → List Given → List Chosen
 shared_choices p active ls gs = map (chosen ls gs) (choices_of p active)
 
--- ---- the derivations that the choices rest on
+-- ---- derivations of all pairs
 
-abbrev pub is_shared : Choice → Bool
-is_shared Shared = true
-is_shared Atomic = false
-is_shared Reduction = false
+-- which names: those that are Shared, or all whose increments aren't collected by iteration
+abbrev pub takes : Which → Choice → Bool
+takes which.Shared Shared = true
+takes which.Shared Atomic = false
+takes which.Shared Reduction = false
+takes which.Uncollected Shared = true
+takes which.Uncollected Atomic = true
+takes which.Uncollected Reduction = false
 
-abbrev pub shared_name : ℕ → Chosen → List (List ℕ)
-shared_name n c = if nat_eq c.loop_number n && is_shared c.choice then c.name ∷ [] else []
+abbrev pub taken_name : Which → ℕ → Chosen → List (List ℕ)
+taken_name w n c = if nat_eq c.loop_number n && takes w c.choice then c.name ∷ [] else []
 
--- the names that are Shared in the loop with a number
-abbrev pub shared_names : ℕ → List Chosen → List (List ℕ)
-shared_names n [] = []
-shared_names n (c ∷ cs) = shared_name n c ++ shared_names n cs
+-- the names of the loop with a number
+abbrev pub taken_names : Which → ℕ → List Chosen → List (List ℕ)
+taken_names w n [] = []
+taken_names w n (c ∷ cs) = taken_name w n c ++ taken_names w n cs
 
 -- a derivation with the numbers of its loop and of its pair's accesses
 pub record DerivedPair : Type 0 where
@@ -109,8 +115,8 @@ abbrev pub derived_pairs : KnownLoop → List Given → List KnownPair → List 
 derived_pairs k gs [] = []
 derived_pairs k gs (p ∷ ps) = derived_pair p (derivation_for k gs p) ++ derived_pairs k gs ps
 
--- for each pair of each Shared name one, by loop, first and second access
-abbrev pub derivations : List Chosen → Loops → List Given → List DerivedPair
-derivations cs [] gs = []
-derivations cs (None ∷ ls) gs = derivations cs ls gs
-derivations cs (Some k ∷ ls) gs = derived_pairs k gs (pairs_of (shared_names k.number cs) k) ++ derivations cs ls gs
+-- for each pair of these names its derivation, where it has one, by loop, first and second access
+abbrev pub derivations : Which → List Chosen → Loops → List Given → List DerivedPair
+derivations w cs [] gs = []
+derivations w cs (None ∷ ls) gs = derivations w cs ls gs
+derivations w cs (Some k ∷ ls) gs = derived_pairs k gs (pairs_of (taken_names w k.number cs) k) ++ derivations w cs ls gs

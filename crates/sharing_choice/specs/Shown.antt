@@ -1,5 +1,5 @@
 -- What a choice says of the pairs of its name.
-use Rattle.std.specs.Prelude.{◌≡◌, ℕ, List, [], ◌∷◌, Some}
+use Rattle.std.specs.Prelude.{◌≡◌, [], ◌∷◌, Some}
 use Rattle.std.specs.List.{AllByRecursion}
 use Rattle.fl_types.specs.declared.choice.Choice.TheVariants.{Shared}
 use Rattle.fl_types.specs.declared.choice.Chosen.{Chosen}
@@ -15,11 +15,18 @@ use Rattle.certificate_check.specs.Pairs.{KnownLoop}
 use Rattle.certificate_check.specs.Flaws.{Loops}
 use Rattle.sharing_choice.specs.Choosing.{pairs_of, DerivedPair}
 
--- a derivation of the pair is accepted, so that where the loop's knowledge is a survey the pair's two accesses never meet in different iterations
+-- the pair is of two of the loop's accesses, by the forms of their subscripts
+pub record HasForms (k : KnownLoop) (p : KnownPair) : Type 0 where
+  pub ones : Forms
+  pub twos : Forms
+  pub of_pair : IsPairOf k.survey p ones twos
+
+-- and a derivation of it is accepted, so that where the loop's knowledge is a survey these never meet in different iterations
 pub record IsApart (k : KnownLoop) (p : KnownPair) : Type 0 where
   pub derived : Derived
   pub accepted : Accepted k.survey p derived
-  pub disjoint : (f g : Forms) → IsSurvey k.survey → IsPairOf k.survey p f g → Disjoint k.survey p f g
+  pub forms : HasForms k p
+  pub disjoint : IsSurvey k.survey → Disjoint k.survey p forms.ones forms.twos
 
 -- where a name is Shared each of its pairs in the loop is so
 abbrev pub HoldsOf : Loops → Chosen → Type 0

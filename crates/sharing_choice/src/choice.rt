@@ -6,10 +6,11 @@ ghost use Rattle.fl_types.specs.declared.choice.Choice.TheVariants as choice;
 ghost use Rattle.fl_types.specs.Sharing.{has_name as has_name_lem};
 ghost use Rattle.certificate_rules.specs.Surveys.{numbered};
 ghost use Rattle.certificate_check.specs.Flaws.{loops_of};
+ghost use Rattle.sharing_choice.specs.declared.derivations.Which.TheVariants as which;
 ghost use Rattle.sharing_choice.specs.Choosing as spec;
 ghost use Rattle.sharing_choice.specs.Shown.{HoldsOf, given_told};
 
-use crate::derivations::derivations;
+use crate::derivations::{Which, derivations};
 use crate::shown::are_shown;
 use adjoint_choices::unproved_choices;
 use certificate::Given;
@@ -115,16 +116,39 @@ pub fn choose(
     givens: &[Given],
 ) -> Result<SharingChoice, Memory>
     ensures choices { IfOk result (λ c. c.choices.entries ≡ spec.shared_choices program.now (λ x. has_name_lem x active.now.names) (loops_of loops.now) givens.now) }
-    ensures derivations { IfOk result (λ c. map given_told c.derivations ≡ spec.derivations c.choices.entries (loops_of loops.now) givens.now) }
+    ensures derivations { IfOk result (λ c. map given_told c.derivations ≡ spec.derivations which.Shared c.choices.entries (loops_of loops.now) givens.now) }
     ensures shown { IfOk result (λ c. AllByRecursion (HoldsOf (loops_of loops.now)) c.choices.entries) }
 {
     let unproved = unproved_choices(alloc, program, active)?;
     let entries = Held::of(chosen_all(alloc, loops, unproved.entries.as_slice(), givens)?);
-    let derivations = derivations(alloc, loops, entries.get().as_slice(), givens)?;
+    let derivations = derivations(
+        alloc,
+        Which::Shared,
+        loops,
+        entries.get().as_slice(),
+        givens,
+    )?;
     Ok(SharingChoice {
         choices: Choices {
             entries: entries.into_inner(),
         },
         derivations,
     })
+}
+
+/// The stated derivations of the plain pairs of all names with these choices, but of those whose increments are collected by iteration.
+pub fn plain_derivations(
+    alloc: Global,
+    loops: &[Option<LoopPairs>],
+    choices: &Choices,
+) -> Result<Items<Given>, Memory>
+    ensures derivations { IfOk result (λ all. map given_told all ≡ spec.derivations which.Uncollected choices.now.entries (loops_of loops.now) []) }
+{
+    Ok(derivations(
+        alloc,
+        Which::Uncollected,
+        loops,
+        choices.entries.as_slice(),
+        &[],
+    )?)
 }

@@ -18,6 +18,14 @@ use fl_types::{Access, Choice, Chosen};
 use index_knowledge::Pair;
 use std::alloc::Global;
 
+/// Which names of a loop.
+#[derive(Clone, Copy)]
+pub enum Which {
+    Shared,
+    /// Those whose increments aren't collected by iteration.
+    Uncollected,
+}
+
 /// Adds a derivation for a pair, where there is one. It stands in no text yet, so its line is 0.
 fn push_given(
     pair: &Pair,
@@ -141,54 +149,67 @@ fn push_among(
     Ok(())
 }
 
-fn is_shared(choice: Choice) -> bool
-    ensures { result ≡ spec.is_shared choice }
+fn takes(which: Which, choice: Choice) -> bool
+    ensures { result ≡ spec.takes which choice }
 {
-    match choice {
-        Choice::Shared => true,
-        Choice::Atomic | Choice::Reduction => false,
+    match which {
+        Which::Shared => match choice {
+            Choice::Shared => true,
+            Choice::Atomic | Choice::Reduction => false,
+        },
+        Which::Uncollected => match choice {
+            Choice::Shared | Choice::Atomic => true,
+            Choice::Reduction => false,
+        },
     }
 }
 
-fn push_shared_name(
+fn push_taken_name(
     alloc: Global,
+    which: Which,
     number: u32,
     chosen: &Chosen,
     names: &mut Items<Name>,
 ) -> Result<(), Memory>
-    ensures { OnOk result (names.new ≡ names.old ++ spec.shared_name number chosen.now) }
+    ensures { OnOk result (names.new ≡ names.old ++ spec.taken_name which number chosen.now) }
 {
     if chosen.loop_number != number {
         return Ok(());
     }
-    if is_shared(chosen.choice) {
+    if takes(which, chosen.choice) {
         names.push(chosen.name.clone(alloc)?)?;
     }
     Ok(())
 }
 
-fn shared_names(alloc: Global, number: u32, chosen: &[Chosen]) -> Result<Items<Name>, Memory>
-    ensures { IfOk result (λ names. names ≡ spec.shared_names number chosen.now) }
+fn taken_names(
+    alloc: Global,
+    which: Which,
+    number: u32,
+    chosen: &[Chosen],
+) -> Result<Items<Name>, Memory>
+    ensures { IfOk result (λ names. names ≡ spec.taken_names which number chosen.now) }
 {
     let mut names = Items::new(alloc);
     for i in 0..chosen.len() {
-        push_shared_name(alloc, number, &chosen[i], &mut names)?;
+        push_taken_name(alloc, which, number, &chosen[i], &mut names)?;
     }
     Ok(names)
 }
 
-/// Adds the derivations of a loop's Shared names.
+/// Adds the derivations of a loop's names.
 fn push_loop(
     alloc: Global,
+    which: Which,
     around: &LoopPairs,
     chosen: &[Chosen],
     givens: &[Given],
     all: &mut Items<Given>,
 ) -> Result<(), Memory>
     ensures { OnOk result (map given_told all.new ≡ map given_told all.old
-        ++ spec.derived_pairs (loop_of around.now) givens.now (spec.pairs_of (spec.shared_names (loop_of around.now).number chosen.now) (loop_of around.now))) }
+        ++ spec.derived_pairs (loop_of around.now) givens.now (spec.pairs_of (spec.taken_names which (loop_of around.now).number chosen.now) (loop_of around.now))) }
 {
-    let names = shared_names(alloc, around.number, chosen)?;
+    let names = taken_names(alloc, which, around.number, chosen)?;
     let accesses = around.knowledge.accesses.as_slice();
     push_among(alloc, around, names.as_slice(), accesses, givens, all)?;
     Ok(())
@@ -196,34 +217,37 @@ fn push_loop(
 
 fn push_entry(
     alloc: Global,
+    which: Which,
     entry: &Option<LoopPairs>,
     chosen: &[Chosen],
     givens: &[Given],
     all: &mut Items<Given>,
 ) -> Result<(), Memory>
-    ensures { OnOk result (map given_told all.new ≡ map given_told all.old ++ spec.derivations chosen.now (option_map loop_of entry.now ∷ []) givens.now) }
+    ensures { OnOk result (map given_told all.new ≡ map given_told all.old ++ spec.derivations which chosen.now (option_map loop_of entry.now ∷ []) givens.now) }
 {
     match entry {
         Some(around) => {
-            push_loop(alloc, around, chosen, givens, all)?;
+            push_loop(alloc, which, around, chosen, givens, all)?;
             Ok(())
         }
         None => Ok(()),
     }
 }
 
-/// For each pair of each Shared name its derivation.
+/// For each pair of these names its derivation, where it has one, by loop, first and second access. These stand in no text, so their lines
+/// are 0.
 pub fn derivations(
     alloc: Global,
+    which: Which,
     loops: &[Option<LoopPairs>],
     chosen: &[Chosen],
     givens: &[Given],
 ) -> Result<Items<Given>, Memory>
-    ensures { IfOk result (λ all. map given_told all ≡ spec.derivations chosen.now (loops_of loops.now) givens.now) }
+    ensures { IfOk result (λ all. map given_told all ≡ spec.derivations which chosen.now (loops_of loops.now) givens.now) }
 {
     let mut all = Items::new(alloc);
     for i in 0..loops.len() {
-        push_entry(alloc, &loops[i], chosen, givens, &mut all)?;
+        push_entry(alloc, which, &loops[i], chosen, givens, &mut all)?;
     }
     Ok(all)
 }

@@ -1,4 +1,4 @@
-use Rattle.std.proofs.Common.{◌≡◌, ℕ, suc, ◌+◌, List, Option, drop, sym, subst, arith}
+use Rattle.std.proofs.Common.{◌≡◌, suc, ◌+◌, sym, arith}
 use Rattle.loop_pairs.proofs.Loops.{one_more, all_done}
 use Rattle.loop_pairs.proofs.program.known_among.Goals as goal
 

@@ -1,4 +1,4 @@
-use Rattle.std.proofs.Common.{◌≡◌, ap, sym, ◌∙◌}
+use Rattle.std.proofs.Common.{ap, ◌∙◌}
 use Rattle.fl_ast.specs.declared.stmt.Program.{Program}
 use Rattle.fl_types.specs.Sharing.{has_name}
 use Rattle.certificate_check.specs.Flaws.{loops_of}

@@ -1,4 +1,4 @@
-use Rattle.std.proofs.Common.{refl, map, ◌≡◌, ◌++◌, ◌∷◌, [], Option, Some, None, sym, ap, ◌∙◌}
+use Rattle.std.proofs.Common.{refl, map, ◌++◌, ◌∷◌, [], Option, Some, None, sym, ap, ◌∙◌}
 use Rattle.std.proofs.lemmas.List.{map-append}
 use Rattle.fl_ast.specs.declared.directive.Directive.{Directive}
 use Rattle.fl_ast.specs.Tree.{Statement, loop, stmt_trees, arm_trees, expr_tree, step_tree}

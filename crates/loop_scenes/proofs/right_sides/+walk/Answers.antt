@@ -1,5 +1,5 @@
-use Rattle.std.proofs.Common.{◌≡◌, ◌++◌, ℕ, Bool, List, sym, ap, ◌∙◌, refl}
-use Rattle.fl_ast.specs.Tree.{Statement, stmt_tree, stmt_trees, arm_trees, expr_tree, step_tree}
+use Rattle.std.proofs.Common.{◌++◌, ℕ, Bool, List, sym, ap, ◌∙◌}
+use Rattle.fl_ast.specs.Tree.{Statement, stmt_trees, arm_trees, expr_tree, step_tree}
 use Rattle.fl_types.specs.Sharing.{has_name}
 use Rattle.loop_scenes.specs.Scened.{scope_there}
 use Rattle.loop_scenes.specs.Marks.{bounds_marks, walked, walked_in, walked_in_arms}

@@ -1,4 +1,4 @@
-use Rattle.std.proofs.Common.{◌≡◌, sym, ◌∙◌, ap, subst, map, List}
+use Rattle.std.proofs.Common.{sym, ◌∙◌, subst, List}
 use Rattle.std.specs.List.{AllByRecursion}
 use Rattle.fl_types.specs.declared.choice.Chosen.{Chosen}
 use Rattle.certificate_check.specs.Flaws.{loops_of}

@@ -1,4 +1,4 @@
-use Rattle.std.proofs.Common.{◌≡◌, ℕ, suc, ◌+◌, ◌++◌, List, map, drop, sym, subst, arith}
+use Rattle.std.proofs.Common.{◌≡◌, ℕ, suc, ◌+◌, ◌++◌, map, drop, sym, subst, arith}
 use Rattle.certificate_check.specs.Pairs.{loop_of}
 use Rattle.sharing_choice.specs.Choosing.{derived_pairs, pairs_among}
 use Rattle.sharing_choice.specs.Shown.{given_told}
