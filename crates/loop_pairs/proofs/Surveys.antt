@@ -13,7 +13,7 @@ use Rattle.fl_types.specs.declared.access.Access.{Access}
 use Rattle.fl_types.specs.Kinds.{has_declared_rank, declared_names, are_well_kinded_statements}
 use Rattle.fl_types.specs.WellTyped.{are_declared_once, IsTyped}
 use Rattle.fl_types.specs.Accesses.{Occurrence, scope_of, loop_accesses}
-use Rattle.loop_accesses.specs.Numbers.{Numbered, numbered_of}
+use Rattle.loop_accesses.specs.Numbers.{Numbered}
 use Rattle.loop_accesses.specs.Numbers as numbers
 use Rattle.index_forms.specs.declared.form.Side.{Side}
 use Rattle.index_forms.specs.declared.form.Side.TheVariants.{One, Two}
@@ -21,9 +21,9 @@ use Rattle.index_forms.specs.Form.{Forms}
 use Rattle.index_forms.specs.Loops.{HeadedLoop, inside}
 use Rattle.index_forms.specs.Walk.{loop_forms}
 use Rattle.certificate_rules.specs.Surveys.{Survey, numbered, count_of, IsSurvey}
-use Rattle.certificate_check.specs.Pairs.{KnownLoop}
+use Rattle.certificate_check.specs.Flaws.{Loops}
 use Rattle.loop_scenes.specs.Loops.{loops_by_all}
-use Rattle.loop_pairs.specs.Known.{IsSurveyOf, AreKnown, AreSurveys}
+use Rattle.loop_pairs.specs.Known.{bare, bare_accesses, survey_by, known_in, known_of, AreSurveys}
 use Rattle.loop_pairs.proofs.Ranks.{rank_of, ranks, counts, loop_counts}
 use Rattle.loop_pairs.proofs.Forms.{as_many}
 use Rattle.loop_pairs.proofs.Typed.{left_of, right_of, IsRanked, of_statements, IsWell, well_by_all}
@@ -95,18 +95,15 @@ same_some x y e = ap (some_or x) e
 abbrev at : (l m j : ℕ) → Occurrence → Numbered
 at l m j o = record { number = m + j; loop_number = l; occurrence = o }
 
-at_number : (l m : ℕ) (as' : List Access) (os : List Occurrence) → map numbered_of as' ≡ numbers.numbered l m os → (j : ℕ) (a : Access) → numbered as' (suc j) ≡ Some a →
-    (o : Occurrence) × (numbered os (suc j) ≡ Some o) × (numbered_of a ≡ at l m j o)
-at_number l m [] os e j a h = cc
-at_number l m (b ∷ as') [] e j a h = cc
-at_number l m (b ∷ as') (o ∷ os) e zero a h =
-    let first : numbered_of b ≡ record { number = m; loop_number = l; occurrence = o } = ap (head_or (numbered_of b)) e in
+at_number : (l m : ℕ) (os : List Occurrence) (j : ℕ) (a : Access) → numbered (map bare (numbers.numbered l m os)) (suc j) ≡ Some a → (o : Occurrence) × (numbered os (suc j) ≡ Some o) × (a ≡ bare (at l m j o))
+at_number l m [] j a h = cc
+at_number l m (o ∷ os) zero a h =
     let z : m ≡ m + 0 = omega arith in
-    (o, refl, ap numbered_of (sym (same_some b a h)) ∙ (first ∙ ap (λ (k : ℕ). (let r : Numbered = record { number = k; loop_number = l; occurrence = o } in r)) z))
-at_number l m (b ∷ as') (o ∷ os) e (suc j) a h =
-    let r = at_number l (suc m) as' os (ap behind e) j a h in
+    (o, refl, sym (same_some (bare (record { number = m; loop_number = l; occurrence = o })) a h) ∙ ap (λ (k : ℕ). (let r : Access = bare (record { number = k; loop_number = l; occurrence = o }) in r)) z)
+at_number l m (o ∷ os) (suc j) a h =
+    let r = at_number l (suc m) os j a h in
     let z : suc m + j ≡ m + suc j = omega arith in
-    (r.0, r.1, r.2 ∙ ap (λ (k : ℕ). (let q : Numbered = record { number = k; loop_number = l; occurrence = r.0 } in q)) z)
+    (r.0, r.1, r.2 ∙ ap (λ (k : ℕ). (let q : Access = bare (record { number = k; loop_number = l; occurrence = r.0 }) in q)) z)
 
 forms_at : (fs : List Forms) (os : List Occurrence) → counts fs ≡ ranks os → (n : ℕ) (f : Forms) (o : Occurrence) → numbered fs n ≡ Some f → numbered os n ≡ Some o → count_of f ≡ rank_of o
 forms_at fs os e zero f o h g = cc
@@ -123,52 +120,47 @@ all_at P (y ∷ xs) w (suc (suc n)) x h = all_at P xs w.1 (suc n) x h
 
 -- ---- one survey
 
-name_is : (p : Place) → (place_tree p).name ≡ p.name
-name_is p = search (rules, expr_lemmas)
-
-module _ (decls : List Decl) (l : HeadedLoop) (s : Survey) (w : IsSurveyOf decls l s) where
-  number_is : (n : ℕ) (a : Access) → numbered s.accesses n ≡ Some a → a.number ≡ n
+module _ (decls : List Decl) (l : HeadedLoop) where
+  number_is : (n : ℕ) (a : Access) → numbered (bare_accesses decls l.loop) n ≡ Some a → a.number ≡ n
   number_is zero a h = cc
   number_is (suc j) a h =
-      let r = at_number l.loop.number 1 s.accesses (loop_accesses decls l.loop) w.accesses j a h in
+      let r = at_number l.loop.number 1 (loop_accesses decls l.loop) j a h in
       let z : 1 + j ≡ suc j = omega arith in
-      ap (λ (x : Numbered). x.number) r.2 ∙ z
+      ap (λ (x : Access). x.number) r.2 ∙ z
 
-  rank_at : are_well_kinded_statements (declared_names decls) (inside l) ≡ true → (side : Side) (fs : List Forms) → fs ≡ loop_forms decls l side → (n : ℕ) (a : Access) (f : Forms) → numbered s.accesses n ≡ Some a → numbered fs n ≡ Some f →
+  rank_at : are_well_kinded_statements (declared_names decls) (inside l) ≡ true → (side : Side) (n : ℕ) (a : Access) (f : Forms) → numbered (bare_accesses decls l.loop) n ≡ Some a → numbered (loop_forms decls l side) n ≡ Some f →
       has_declared_rank decls a.place.name (count_of f) ≡ true
-  rank_at k side fs e zero a f h g = cc
-  rank_at k side fs e (suc j) a f h g =
-      let r = at_number l.loop.number 1 s.accesses (loop_accesses decls l.loop) w.accesses j a h in
+  rank_at k side zero a f h g = cc
+  rank_at k side (suc j) a f h g =
+      let r = at_number l.loop.number 1 (loop_accesses decls l.loop) j a h in
       let o = r.0 in
-      let count : count_of f ≡ rank_of o = forms_at fs (loop_accesses decls l.loop) (ap counts e ∙ loop_counts decls l side) (suc j) f o g r.1 in
+      let count : count_of f ≡ rank_of o = forms_at (loop_forms decls l side) (loop_accesses decls l.loop) (loop_counts decls l side) (suc j) f o g r.1 in
       let ranked : has_declared_rank decls o.place.name (rank_of o) ≡ true =
       all_at (IsRanked (declared_names decls)) (loop_accesses decls l.loop) (of_statements (declared_names decls) (scope_of decls l.loop) 1 [] (inside l) k) (suc j) o r.1 in
-      let name : a.place.name ≡ o.place.name = sym (name_is a.place) ∙ ap (λ (x : Numbered). x.occurrence.place.name) r.2 in
+      let name : a.place.name ≡ o.place.name = ap (λ (x : Access). x.place.name) r.2 in
       ap (λ (x : List ℕ). has_declared_rank decls x (count_of f)) name ∙ (ap (has_declared_rank decls o.place.name) count ∙ ranked)
 
-  pub survey_is : are_declared_once decls ≡ true → are_well_kinded_statements (declared_names decls) (inside l) ≡ true → IsSurvey s
+  pub survey_is : are_declared_once decls ≡ true → are_well_kinded_statements (declared_names decls) (inside l) ≡ true → IsSurvey (survey_by decls l)
   survey_is o k = record {
     numbers = number_is;
-    ones = as_many decls l One l.loop.number s.ones s.accesses w.ones w.accesses;
-    twos = as_many decls l Two l.loop.number s.twos s.accesses w.twos w.accesses;
+    ones = as_many decls l One (loop_forms decls l One) (bare_accesses decls l.loop) refl refl;
+    twos = as_many decls l Two (loop_forms decls l Two) (bare_accesses decls l.loop) refl refl;
     one_rank = λ m n a b f g ha hb e hf hg.
-        let left : has_declared_rank decls a.place.name (count_of f) ≡ true = rank_at k One s.ones w.ones m a f ha hf in
-        let right : has_declared_rank decls b.place.name (count_of g) ≡ true = rank_at k Two s.twos w.twos n b g hb hg in
+        let left : has_declared_rank decls a.place.name (count_of f) ≡ true = rank_at k One m a f ha hf in
+        let right : has_declared_rank decls b.place.name (count_of g) ≡ true = rank_at k Two n b g hb hg in
         let same : a.place.name ≡ b.place.name = (bytes_eq-Decides a.place.name b.place.name).0 e in
         one_rank b.place.name (count_of f) (count_of g) decls o (ap (λ (x : List ℕ). has_declared_rank decls x (count_of f)) (sym same) ∙ left) right;
-    facts_are = w.facts;
+    facts_are = refl;
   }
 
 -- ---- all loops
 
-each_survey : (decls : List Decl) (on : List ℕ → Bool) (ls : List (Option HeadedLoop)) (ks : List (Option KnownLoop)) → are_declared_once decls ≡ true → AllByRecursion (IsWell (declared_names decls)) ls → AreKnown decls on ls ks → AreSurveys ks
-each_survey decls on [] [] o w k = tt
-each_survey decls on [] (x ∷ ks) o w k = absurd k
-each_survey decls on (l ∷ ls) [] o w k = absurd k
-each_survey decls on (None ∷ ls) (None ∷ ks) o w k = each_survey decls on ls ks o w.1 k.1
-each_survey decls on (None ∷ ls) (Some x ∷ ks) o w k = absurd k.0
-each_survey decls on (Some l ∷ ls) (None ∷ ks) o w k = absurd k.0
-each_survey decls on (Some l ∷ ls) (Some x ∷ ks) o w k = (survey_is decls l x.survey k.0.survey o w.0, each_survey decls on ls ks o w.1 k.1)
+each_survey : (decls : List Decl) (on : List ℕ → Bool) (ls : List (Option HeadedLoop)) → are_declared_once decls ≡ true → AllByRecursion (IsWell (declared_names decls)) ls → AreSurveys (known_in decls on ls)
+each_survey decls on [] o w = tt
+each_survey decls on (None ∷ ls) o w = each_survey decls on ls o w.1
+each_survey decls on (Some l ∷ ls) o w = (survey_is decls l o w.0, each_survey decls on ls o w.1)
 
-pub all_surveys : (p : Program) (on : List ℕ → Bool) (ks : List (Option KnownLoop)) → IsTyped p → AreKnown p.decls on (loops_by_all [] (stmt_trees p.body)) ks → AreSurveys ks
-all_surveys p on ks t k = each_survey p.decls on (loops_by_all [] (stmt_trees p.body)) ks t.once (well_by_all (declared_names p.decls) [] (stmt_trees p.body) t.kinds) k
+pub all_surveys : (p : Program) (on : List ℕ → Bool) (ks : Loops) → IsTyped p → ks ≡ known_of p on → AreSurveys ks
+unfolding known_of
+all_surveys p on ks t k =
+    subst AreSurveys (sym k) (each_survey p.decls on (loops_by_all [] (stmt_trees p.body)) t.once (well_by_all (declared_names p.decls) [] (stmt_trees p.body) t.kinds))

@@ -1,21 +1,23 @@
 //! What is known of one loop.
 
-ghost use Rattle.std.specs.Prelude.{◌≡◌, ℕ, List, IfOk};
+ghost use Rattle.std.specs.Prelude.{◌≡◌, ℕ, List, map, IfOk};
 ghost use Rattle.fl_types.specs.Sharing.{has_name};
 ghost use Rattle.index_forms.specs.Listed.{all_forms_seen};
 ghost use Rattle.index_forms.specs.Loops.{forms_scope, inside};
 ghost use Rattle.index_forms.specs.Walk.{loop_forms};
 ghost use Rattle.loop_scenes.specs.Rights.{rights_in};
+ghost use Rattle.loop_accesses.specs.Numbers.{numbered_of};
 ghost use Rattle.loop_accesses.specs.Views.{loop_view};
 ghost use Rattle.loop_scenes.specs.Views.{headed_loop};
 ghost use Rattle.acceptance.specs.Told.{survey_of};
 ghost use Rattle.certificate_check.specs.Pairs.{loop_of};
-ghost use Rattle.loop_pairs.specs.Known.{nest_of as nest_of_lem, IsSurveyOf, IsKnownLoop};
+ghost use Rattle.loop_pairs.specs.Known.{nest_of as nest_of_lem, bare, bare_accesses as bare_accesses_lem, survey_by, known_loop};
 
 use acceptance::LoopKnowledge;
 use certificate_check::LoopPairs;
+use fl_ast::Place;
 use fl_base::{Held, Items, Memory};
-use fl_types::{NameSet, is_nest, iteration_body};
+use fl_types::{Access, NameSet, is_nest, iteration_body};
 use index_forms::{Form, Side, forms_of_accesses};
 use index_knowledge::facts;
 use index_ranges::ranges;
@@ -65,17 +67,58 @@ fn rights_of(
     Ok(rights(alloc, &scene, active, body)?)
 }
 
+/// An access without its subscripts.
+fn bare_access(alloc: Global, access: &Access) -> Result<Access, Memory>
+    ensures { IfOk result (λ a. a ≡ bare (numbered_of access.now)) }
+{
+    let path = Items::from_slice(alloc, access.path.as_slice())?;
+    let name = access.place.name.clone(alloc)?;
+    Ok(Access {
+        number: access.number,
+        loop_number: access.loop_number,
+        line: access.line,
+        place: Place {
+            name,
+            subscripts: Items::new(alloc),
+        },
+        path,
+        kind: access.kind,
+    })
+}
+
+fn bare_all(alloc: Global, accesses: &[Access]) -> Result<Items<Access>, Memory>
+    ensures { IfOk result (λ all. all ≡ map bare (map numbered_of accesses.now)) }
+{
+    let mut all = Items::new(alloc);
+    for i in 0..accesses.len() {
+        all.push(bare_access(alloc, &accesses[i])?)?;
+    }
+    Ok(all)
+}
+
+/// The accesses of a loop. Their subscripts are known by their forms.
+fn bare_accesses<'t>(
+    alloc: Global,
+    indexed: &Indexed<'t>,
+    view: &LoopView<'t>,
+) -> Result<Items<Access>, Memory>
+    ensures { IfOk result (λ all. all ≡ bare_accesses_lem indexed.now.decls (loop_view view.now)) }
+{
+    let all = accesses(alloc, indexed, view)?;
+    Ok(bare_all(alloc, all.as_slice())?)
+}
+
 /// The accesses of a loop with what is known of their subscripts.
 fn knowledge_of<'t>(
     alloc: Global,
     indexed: &Indexed<'t>,
     headed: &HeadedView<'t>,
 ) -> Result<LoopKnowledge, Memory>
-    ensures { IfOk result (λ k. IsSurveyOf indexed.now.decls (headed_loop headed.now) (survey_of k)) }
+    ensures { IfOk result (λ k. survey_of k ≡ survey_by indexed.now.decls (headed_loop headed.now)) }
 {
     let ones = Held::of(forms_on(alloc, indexed, headed, Side::One)?);
     let twos = Held::of(forms_on(alloc, indexed, headed, Side::Two)?);
-    let accesses = Held::of(accesses(alloc, indexed, &headed.view)?);
+    let accesses = Held::of(bare_accesses(alloc, indexed, &headed.view)?);
     let facts = Held::of(facts(
         alloc,
         accesses.get().as_slice(),
@@ -105,7 +148,7 @@ pub fn loop_pairs<'t>(
     active: &NameSet,
     headed: &HeadedView<'t>,
 ) -> Result<LoopPairs, Memory>
-    ensures { IfOk result (λ l. IsKnownLoop indexed.now.decls (λ x. has_name x active.now.names) (headed_loop headed.now) (loop_of l)) }
+    ensures { IfOk result (λ l. loop_of l ≡ known_loop indexed.now.decls (λ x. has_name x active.now.names) (headed_loop headed.now)) }
 {
     let view = &headed.view;
     let rights = rights_of(alloc, indexed, active, headed)?;

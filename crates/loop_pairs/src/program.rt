@@ -1,13 +1,11 @@
 //! What is known of all loops of a program.
 
-ghost use Rattle.std.specs.Prelude.{◌≡◌, [], ℕ, List, map, option_map, IfOk};
-ghost use Rattle.fl_ast.specs.Tree.{stmt_trees};
+ghost use Rattle.std.specs.Prelude.{◌≡◌, ℕ, List, map, option_map, IfOk};
 ghost use Rattle.fl_types.specs.Sharing.{has_name};
-ghost use Rattle.loop_scenes.specs.Loops.{loops_by_all};
 ghost use Rattle.loop_scenes.specs.Views.{headed_seen};
 ghost use Rattle.certificate_check.specs.Pairs.{loop_of};
 ghost use Rattle.certificate_check.specs.Flaws.{loops_of};
-ghost use Rattle.loop_pairs.specs.Known.{IsKnown, AreKnown, AreSurveys};
+ghost use Rattle.loop_pairs.specs.Known.{known_loop as known_loop_lem, known_in, known_of, AreSurveys};
 
 use crate::knowledge::loop_pairs;
 use certificate_check::LoopPairs;
@@ -23,7 +21,7 @@ fn known_loop<'t>(
     active: &NameSet,
     headed: &Option<HeadedView<'t>>,
 ) -> Result<Option<LoopPairs>, Memory>
-    ensures { IfOk result (λ o. IsKnown indexed.now.decls (λ x. has_name x active.now.names) (headed_seen headed.now) (option_map loop_of o)) }
+    ensures { IfOk result (λ o. option_map loop_of o ≡ option_map (known_loop_lem indexed.now.decls (λ x. has_name x active.now.names)) (headed_seen headed.now)) }
 {
     match headed {
         Some(headed) => Ok(Some(loop_pairs(alloc, indexed, active, headed)?)),
@@ -37,7 +35,7 @@ fn known_among<'t>(
     active: &NameSet,
     loops: &[Option<HeadedView<'t>>],
 ) -> Result<Items<Option<LoopPairs>>, Memory>
-    ensures { IfOk result (λ all. AreKnown indexed.now.decls (λ x. has_name x active.now.names) (map headed_seen loops.now) (loops_of all)) }
+    ensures { IfOk result (λ all. loops_of all ≡ known_in indexed.now.decls (λ x. has_name x active.now.names) (map headed_seen loops.now)) }
 {
     let mut all = Items::new(alloc);
     for i in 0..loops.len() {
@@ -52,7 +50,7 @@ pub fn known_loops(
     typed: &Typed,
     active: &NameSet,
 ) -> Result<Items<Option<LoopPairs>>, Memory>
-    ensures known { IfOk result (λ all. AreKnown typed.now.decls (λ x. has_name x active.now.names) (loops_by_all [] (stmt_trees typed.now.body)) (loops_of all)) }
+    ensures known { IfOk result (λ all. loops_of all ≡ known_of typed.now (λ x. has_name x active.now.names)) }
     ensures surveys { IfOk result (λ all. AreSurveys (loops_of all)) }
 {
     let indexed = Indexed::of(alloc, typed.program())?;
