@@ -1,6 +1,8 @@
-ghost use Rattle.std.specs.Prelude.{◌≡◌, ◌<◌, ℕ, length, if◌then◌else◌, IfSome, Some, None, false};
-ghost use Rattle.reverse_sweep.specs.Reversing.{summed};
+ghost use Rattle.std.specs.Prelude.{◌≡◌, ◌<◌, ◌∷◌, ℕ, length, if◌then◌else◌, IfSome, OnOk, OnErr, Some, None, false};
+ghost use Rattle.reverse_sweep.specs.Reversing.{summed, first_sum, later_sums};
 ghost use Rattle.reverse_state.specs.Holding.{sums_back, with_added, cell_in, summed_at};
+
+use fl_base::Memory;
 
 /// The sum of additions to a cell that are made later on.
 #[derive(Clone, Copy, Debug)]
@@ -52,5 +54,24 @@ pub(crate) fn add_to(sums: &mut Vec<Sum>, cell: u32, amount: u64) -> bool
             add_at(sums, at, amount);
             true
         }
+    }
+}
+
+/// Begins a sum.
+pub(crate) fn put_sum(sums: &mut Vec<Sum>, cell: u32) -> Result<(), Memory>
+    ensures { OnOk result (sums_back sums.new.items ≡ (cell, 0) ∷ sums_back sums.old.items) }
+{
+    sums.push(Sum { cell, amount: 0 })?;
+    Ok(())
+}
+
+/// Takes the newest sum: what it came to, 0 where there is none.
+pub(crate) fn last_amount(sums: &mut Vec<Sum>) -> u64
+    ensures amount { result ≡ first_sum (sums_back sums.old.items) }
+    ensures later { sums_back sums.new.items ≡ later_sums (sums_back sums.old.items) }
+{
+    match sums.pop() {
+        None => 0,
+        Some(sum) => sum.amount,
     }
 }
