@@ -1,0 +1,7 @@
+//! Reverse sweeps: statements as they are undone, on one thread.
+#![tactic(auto)]
+
+mod evaluations;
+mod stores;
+
+pub use stores::undo_store;
