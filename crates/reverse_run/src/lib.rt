@@ -1,6 +1,7 @@
 //! Reverse sweeps: statements as they are undone, on one thread.
 #![tactic(auto)]
 
+mod bounds;
 mod evaluations;
 mod stores;
 

@@ -1,0 +1,73 @@
+-- What a reverse sweep asks of statements, and loops by their bounds.
+use Rattle.std.specs.Prelude.{◌≡◌, ℕ, ◌<◌, Bool, true, false, not, ◌&&◌, nat_lt, List, [], ◌∷◌, Option, Some, None, is_some}
+use Rattle.std.specs.List.{list_all}
+use Rattle.meaning.specs.declared.value.IterationCount.{IterationCount}
+use Rattle.transposition.specs.Tapes.{Tape}
+use Rattle.transposition.specs.Worlds.{Local}
+use Rattle.forward_sweep.specs.Machine.{HasNumbers}
+use Rattle.undo_steps.specs.UndoSteps.{AroundUndo, back_turns, back_iterations, UndoTree, undo_store, undo_choice, undo_loop, UndoTrees, no_undos, undos, UndoArms, no_undo_arms, undo_arm}
+use Rattle.sweep_evaluation.specs.Machine.{Ran, ran}
+use Rattle.reverse_sweep.specs.Reversing.{Stage, Reversing, reversing, on_tape}
+use Rattle.reverse_sweep.specs.Machine.{Counts, bounds_on, below_words, counts_on, below_counts}
+use Rattle.reverse_state.specs.Holding.{Held, Home, home_of, Keeps}
+use Rattle.reverse_run.specs.declared.bounds.Round.{Round}
+use Rattle.reverse_run.specs.declared.bounds.Rounds.{Rounds}
+use Rattle.reverse_run.specs.declared.bounds.Rounds.TheVariants as rounds
+
+-- ---- statements
+
+abbrev pub is_around_flat : ℕ → Bool → AroundUndo → Bool
+is_around_flat n inside (back_turns place) = true
+is_around_flat n inside (back_iterations places privates reductions) = not inside && list_all (λ q. nat_lt q n) reductions
+
+-- inside its iterations
+abbrev pub is_inside : Bool → AroundUndo → Bool
+is_inside inside (back_turns place) = inside
+is_inside inside (back_iterations places privates reductions) = true
+
+-- no parallel loop is in another, nor, inside one, is any; and the places of Reductions are below n
+abbrev mutual
+  pub is_flat : ℕ → Bool → UndoTree → Bool
+  is_flat n inside (undo_store s) = true
+  is_flat n inside (undo_choice arms other) = are_arms_flat n inside arms && are_flat n inside other
+  is_flat n inside (undo_loop around body) = is_around_flat n inside around && are_flat n (is_inside inside around) body
+
+  pub are_flat : ℕ → Bool → UndoTrees → Bool
+  are_flat n inside no_undos = true
+  are_flat n inside (undos u us) = is_flat n inside u && are_flat n inside us
+
+  pub are_arms_flat : ℕ → Bool → UndoArms → Bool
+  are_arms_flat n inside no_undo_arms = true
+  are_arms_flat n inside (undo_arm us arms) = are_flat n inside us && are_arms_flat n inside arms
+
+abbrev pub is_within : Held → Bool
+is_within h = is_some (home_of h)
+
+-- ---- loops
+
+-- the words of a loop's bounds are taken
+abbrev pub bounds_taken : Reversing → Ran Reversing IterationCount
+bounds_taken s = ran (bounds_on s.local.tape) (reversing (on_tape (below_words s.local.tape) s.local) s.stage)
+
+abbrev pub round_back : Round → Option ℕ × IterationCount
+round_back r = (r.place, r.turns)
+
+abbrev pub counts_back : Rounds → Counts
+counts_back (rounds.One only) = round_back only ∷ []
+counts_back (rounds.Two outer inner) = round_back outer ∷ round_back inner ∷ []
+
+-- the words of the bounds of one loop, or of two
+abbrev pub counts_taken : List (Option ℕ) → Reversing → Ran Reversing Counts
+counts_taken places s = ran (counts_on places s.local.tape) (reversing (on_tape (below_counts places s.local.tape) s.local) s.stage)
+
+-- the variables are of the index kind in each turn
+abbrev pub HaveNumbers : Rounds → Type 0
+HaveNumbers (rounds.One only) = HasNumbers only.turns
+HaveNumbers (rounds.Two outer inner) = HasNumbers outer.turns × HasNumbers inner.turns
+
+-- what iterations leave of the cells and the sums, the loop's entry being m
+pub record Works (old new : Held) (f : Home → Stage → Stage) : Type 0 where
+  pub before : new.lost ≡ false → old.lost ≡ false
+  pub keeps : new.lost ≡ false → Keeps old new
+  pub cells : new.lost ≡ false → (m : Home) → home_of old ≡ Some m → (g : Stage) → g.cells ≡ old.cells → g.sums ≡ old.sums → (f m g).cells ≡ new.cells
+  pub sums : new.lost ≡ false → (m : Home) → home_of old ≡ Some m → (g : Stage) → g.cells ≡ old.cells → g.sums ≡ old.sums → (f m g).sums ≡ new.sums
