@@ -1,3 +1,4 @@
 pub mod Quotients
 pub mod Bounding
 pub mod Running
+pub mod Iterating

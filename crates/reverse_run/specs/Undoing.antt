@@ -1,6 +1,5 @@
 -- What a reverse sweep asks of statements, and loops by their bounds.
 use Rattle.std.specs.Prelude.{◌≡◌, ℕ, ◌<◌, Bool, true, false, not, ◌&&◌, nat_lt, List, [], ◌∷◌, Option, Some, None, is_some}
-use Rattle.std.specs.List.{list_all}
 use Rattle.meaning.specs.declared.value.IterationCount.{IterationCount}
 use Rattle.transposition.specs.Tapes.{Tape}
 use Rattle.transposition.specs.Worlds.{Local}
@@ -16,9 +15,14 @@ use Rattle.reverse_run.specs.declared.bounds.Rounds.TheVariants as rounds
 
 -- ---- statements
 
+-- each place is below n
+abbrev pub are_below : ℕ → List ℕ → Bool
+are_below n [] = true
+are_below n (q ∷ qs) = nat_lt q n && are_below n qs
+
 abbrev pub is_around_flat : ℕ → Bool → AroundUndo → Bool
 is_around_flat n inside (back_turns place) = true
-is_around_flat n inside (back_iterations places privates reductions) = not inside && list_all (λ q. nat_lt q n) reductions
+is_around_flat n inside (back_iterations places privates reductions) = not inside && are_below n reductions
 
 -- inside its iterations
 abbrev pub is_inside : Bool → AroundUndo → Bool

@@ -3,6 +3,7 @@
 
 mod bounds;
 mod evaluations;
+mod iterations;
 mod stores;
 
 pub use stores::undo_store;
