@@ -27,7 +27,7 @@ use Rattle.sweep_trees.specs.Standing.{is_accessed_at}
 use Rattle.sweep_steps.specs.Steps.{StepTrees}
 use Rattle.sweep_steps.specs.StepsStand.{flags_at, AllStand}
 use Rattle.made_steps.specs.Scopes.{are_declared_placed, IsOutside}
-use Rattle.made_steps.proofs.Opening.{opening_outside}
+use Rattle.loop_scopes.proofs.Opening.{opening_outside}
 use Rattle.sweep_law.specs.Telling.{IsSite}
 use Rattle.forward_law.specs.Forward.{Beside}
 use Rattle.dual_meaning.specs.Tangents.{shape_cells}

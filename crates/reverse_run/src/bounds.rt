@@ -94,7 +94,12 @@ fn variable_word(turns: &IterationCount, turn: u64) -> u64
 }
 
 /// Sets a loop's variable for a turn, where it has a place of an iteration's own.
-pub(crate) fn set_variable<C: Cells>(run: &mut Reverse<C>, place: Option<u32>, turns: &IterationCount, turn: u64)
+pub(crate) fn set_variable<C: Cells>(
+    run: &mut Reverse<C>,
+    place: Option<u32>,
+    turns: &IterationCount,
+    turn: u64,
+)
     requires numbers { HasNumbers turns.now }
     requires within { turn < turns.now.count }
     ensures { Leaves run.old run.new (on_local (variable_set run.old.shared place turns.now turn)) }

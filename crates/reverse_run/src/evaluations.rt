@@ -13,7 +13,11 @@ use sweep_trees::{RingCode, Spot, TestCode};
 
 /// The place of an occurrence, `None` outside its bounds.
 #[inline(always)]
-pub(crate) fn place_of<C: Cells>(run: &mut Reverse<C>, table: &SlotTable, spot: &Spot) -> Option<u32>
+pub(crate) fn place_of<C: Cells>(
+    run: &mut Reverse<C>,
+    table: &SlotTable,
+    spot: &Spot,
+) -> Option<u32>
     ensures { Gives run.old run.new result (spot_place (told run.old.shared) table.now (spot_tree spot.now)) }
 {
     locate(run, table, spot)

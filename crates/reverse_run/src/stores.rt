@@ -19,7 +19,11 @@ use undo_steps::{Factor, Growth, Undo};
 fn chosen(holds: bool, one: u64, other: u64) -> Ring
     ensures { result ≡ (if holds then one else other) }
 {
-    if holds { Ring::of_word(one) } else { Ring::of_word(other) }
+    if holds {
+        Ring::of_word(one)
+    } else {
+        Ring::of_word(other)
+    }
 }
 
 /// The value of a factor.
@@ -36,7 +40,12 @@ fn factor<C: Cells>(run: &mut Reverse<C>, table: &SlotTable, factor: &Factor) ->
 }
 
 /// The product with further factors.
-fn product<C: Cells>(run: &mut Reverse<C>, table: &SlotTable, factors: &[Factor], start: Ring) -> Ring
+fn product<C: Cells>(
+    run: &mut Reverse<C>,
+    table: &SlotTable,
+    factors: &[Factor],
+    start: Ring,
+) -> Ring
     ensures { Gives run.old run.new result (product_lem table.now run.old.shared (map factor_tree factors.now) start) }
 {
     let mut product = start;

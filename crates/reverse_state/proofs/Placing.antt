@@ -118,8 +118,8 @@ gives u v a M m e d =
     let s : Reversing = reversing (local_of u) (record { cells = u.cells; sums = u.sums; ops = [] }) in
     let at : (t : Reversing) → Stands u t → PlacedStands u (placed u.shared (home_of u) t) = λ t h. record { run = h; shared = refl; home = refl } in
     let ends : v.lost ≡ false → (t : Reversing) → Stands u t → (a ≡ (m t).out) × PlacedStands v (placed u.shared (home_of u) (m t).state) = λ l t h.
-        let r = d.runs l (placed u.shared (home_of u) t) (at t h) in
-        (r.0 ∙ ap (λ (x : Ran Placed _). x.out) (e t), subst (λ (x : Ran Placed _). PlacedStands v x.state) (e t) r.1)
+    let r = d.runs l (placed u.shared (home_of u) t) (at t h) in
+    (r.0 ∙ ap (λ (x : Ran Placed _). x.out) (e t), subst (λ (x : Ran Placed _). PlacedStands v x.state) (e t) r.1)
     in
     record {
       before = d.before;

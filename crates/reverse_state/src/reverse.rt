@@ -38,15 +38,15 @@ impl<C: Cells> Model for Reverse<C> {
     ghost Value = { Held };
 
     ghost view = { λ r. record {
-        shared = r.shared;
-        reading = r.reading;
-        values = r.values.items;
-        adjoints = r.adjoints.items;
-        entry_values = r.entry_values.items;
-        entry_adjoints = r.entry_adjoints.items;
-        cells = C.cells r.cells;
-        sums = sums_back r.sums.items;
-        lost = r.lost;
+      shared = r.shared;
+      reading = r.reading;
+      values = r.values.items;
+      adjoints = r.adjoints.items;
+      entry_values = r.entry_values.items;
+      entry_adjoints = r.entry_adjoints.items;
+      cells = C.cells r.cells;
+      sums = sums_back r.sums.items;
+      lost = r.lost;
     } };
 
     ghost invariant = { λ r. IsReversing r.shared (C.cells r.cells) (C.due r.cells) r.values.items r.adjoints.items r.entry_values.items r.entry_adjoints.items };
@@ -107,15 +107,15 @@ impl<C: Cells + Drop> Reverse<C> {
         requires doubled { length (C.cells cells) ≡ shared + shared }
         requires alone { C.due cells ≡ None }
         ensures { IfOk result (λ r. r ≡ record {
-            shared = shared;
-            reading = record { items = tape; inside = None };
-            values = replicate own 0;
-            adjoints = replicate own 0;
-            entry_values = replicate own 0;
-            entry_adjoints = replicate own 0;
-            cells = C.cells cells;
-            sums = [];
-            lost = false;
+          shared = shared;
+          reading = record { items = tape; inside = None };
+          values = replicate own 0;
+          adjoints = replicate own 0;
+          entry_values = replicate own 0;
+          entry_adjoints = replicate own 0;
+          cells = C.cells cells;
+          sums = [];
+          lost = false;
         }) }
     {
         let values = vec![in alloc; 0u64; own]?;

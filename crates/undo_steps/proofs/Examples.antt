@@ -90,9 +90,9 @@ mixed_stands = (
           steps = refl;
           growing = (a_stands, (d_stands, (x_stands, tt)));
         },
-        tt
-      )
-    )
+        tt,
+      ),
+    ),
   ),
-  tt
+  tt,
 )
