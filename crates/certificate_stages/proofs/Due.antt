@@ -1,5 +1,5 @@
 -- The texts for a set of active names are those of the definitions.
-use Rattle.std.proofs.Common.{◌≡◌, ℕ, Bool, List, [], Result, Ok, Err, IfOk, Vec, Global, ap, sym, subst, ◌∙◌}
+use Rattle.std.proofs.Common.{◌≡◌, ℕ, Bool, List, [], Result, Ok, Err, IfOk, Vec, Global, ap, subst, ◌∙◌}
 use Rattle.fl_ast.specs.declared.stmt.Program.{Program}
 use Rattle.fl_printer.specs.Text.{adjoint_text}
 use Rattle.fl_types.specs.declared.choice.Chosen.{Chosen}
@@ -7,7 +7,7 @@ use Rattle.fl_types.specs.Sharing.{has_name}
 use Rattle.activity.specs.Active.{AreActive}
 use Rattle.adjoint_rules.specs.Adjoint.{adjoint_of}
 use Rattle.adjoint_unit.specs.Adjoints.{IsAdjointOf}
-use Rattle.adjoint_sets.specs.Names.{is_active, is_needed}
+use Rattle.adjoint_sets.specs.Names.{is_needed}
 use Rattle.adjoint_sets.proofs.Same.{active_is, needed_is}
 use Rattle.adjoint_stage.specs.Adjoints.{IsTextFor}
 use Rattle.program_certificates.specs.Choices.{choices_with}

@@ -1,5 +1,5 @@
 -- The order of refusals up to a certificate's text, and up to the text of an adjoint whose atomic steps are dropped where that is shown.
-use Rattle.std.specs.Prelude.{◌≡◌, ℕ, Bool, List, []}
+use Rattle.std.specs.Prelude.{ℕ, Bool, List, []}
 use Rattle.ending.specs.Plan.{Plan}
 use Rattle.fl_ast.specs.declared.stmt.Program.{Program}
 use Rattle.fl_ast.specs.AdjointTree.{AdjointSubroutine}

@@ -1,14 +1,12 @@
 -- What is known of a loop of a typed program is a survey.
-use Rattle.std.proofs.Common.{rules, ◌≡◌, ℕ, zero, suc, ◌+◌, Bool, true, false, not, ◌&&◌, ◌||◌, List, [], ◌∷◌, length, map, Option, Some, None, refl, sym, ap, ◌∙◌, subst, arith}
+use Rattle.std.proofs.Common.{◌≡◌, ℕ, zero, suc, ◌+◌, Bool, true, false, not, ◌&&◌, ◌||◌, List, [], ◌∷◌, length, map, Option, Some, None, refl, sym, ap, ◌∙◌, subst, arith}
 use Rattle.std.specs.Prelude.{bytes_eq, nat_eq}
 use Rattle.std.specs.List.{list_any, AllByRecursion}
 use Rattle.std.proofs.lemmas.Bool.{eqb-true}
 use Rattle.std.proofs.lemmas.Slice.Eq.{bytes_eq-Decides}
 use Rattle.fl_ast.specs.declared.decl.Decl.{Decl}
-use Rattle.fl_ast.specs.declared.expr.Place.{Place}
-use Rattle.fl_ast.specs.declared.expr.Expr.{the_lemmas as expr_lemmas}
 use Rattle.fl_ast.specs.declared.stmt.Program.{Program}
-use Rattle.fl_ast.specs.Tree.{place_tree, stmt_trees}
+use Rattle.fl_ast.specs.Tree.{stmt_trees}
 use Rattle.fl_types.specs.declared.access.Access.{Access}
 use Rattle.fl_types.specs.Kinds.{has_declared_rank, declared_names, are_well_kinded_statements}
 use Rattle.fl_types.specs.WellTyped.{are_declared_once, IsTyped}
@@ -20,7 +18,7 @@ use Rattle.index_forms.specs.declared.form.Side.TheVariants.{One, Two}
 use Rattle.index_forms.specs.Form.{Forms}
 use Rattle.index_forms.specs.Loops.{HeadedLoop, inside}
 use Rattle.index_forms.specs.Walk.{loop_forms}
-use Rattle.certificate_rules.specs.Surveys.{Survey, numbered, count_of, IsSurvey}
+use Rattle.certificate_rules.specs.Surveys.{numbered, count_of, IsSurvey}
 use Rattle.certificate_check.specs.Flaws.{Loops}
 use Rattle.loop_scenes.specs.Loops.{loops_by_all}
 use Rattle.loop_pairs.specs.Known.{bare, bare_accesses, survey_by, known_in, known_of, AreSurveys}

@@ -1,5 +1,5 @@
 -- Pairs of Shared names never meet.
-use Rattle.std.proofs.Common.{◌≡◌, ℕ, zero, suc, List, [], ◌∷◌, Option, Some, None, refl, ap, subst}
+use Rattle.std.proofs.Common.{◌≡◌, ℕ, zero, suc, List, [], ◌∷◌, Option, Some, None, ap, subst}
 use Rattle.std.specs.List.{AllByRecursion}
 use Rattle.fl_types.specs.declared.choice.Chosen.{Chosen}
 use Rattle.index_knowledge.specs.Knowledge.{KnownPair}

@@ -7,10 +7,9 @@ use Rattle.certificate.specs.declared.derivation.Line as program_line
 use Rattle.certificate.specs.declared.derivation.Line.TheVariants.{Hyp, Comb, Cong}
 use Rattle.certificate.specs.declared.derivation.Close as program_close
 use Rattle.certificate.specs.declared.derivation.Close.TheVariants.{Distinct, Residue, Range, Fact}
-use Rattle.certificate.specs.declared.derivation.Derivation.{Derivation}
 use Rattle.certificate.specs.declared.derivation.Given.{Given}
 use Rattle.certificate.specs.Text.{pair_words, lines_text, close_words, given_text, givens_text, cert_text}
-use Rattle.acceptance.specs.Told.{multiple_told, line_told, close_told, derivation_told}
+use Rattle.acceptance.specs.Told.{multiple_told, line_told, close_told}
 use Rattle.sharing_choice.specs.Choosing.{DerivedPair}
 use Rattle.sharing_choice.specs.Shown.{given_told}
 use Rattle.program_certificates.specs.Choices.{stated_derivations}

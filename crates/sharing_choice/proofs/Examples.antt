@@ -1,5 +1,5 @@
 -- The choices of small loops compute.
-use Rattle.std.proofs.Common.{◌≡◌, ℕ, true, false, pos, negsuc, List, [], ◌∷◌, Option, Some, None, refl}
+use Rattle.std.proofs.Common.{◌≡◌, ℕ, true, false, pos, List, [], ◌∷◌, Some, None, refl}
 use Rattle.fl_types.specs.declared.access.Access.{Access}
 use Rattle.fl_types.specs.declared.access.AccessKind.{AccessKind}
 use Rattle.fl_types.specs.declared.access.AccessKind.TheVariants.{Read, Write}
@@ -9,15 +9,11 @@ use Rattle.fl_types.specs.declared.choice.Chosen.{Chosen}
 use Rattle.index_forms.specs.declared.form.Side.{Side}
 use Rattle.index_forms.specs.declared.form.Side.TheVariants.{One, Two}
 use Rattle.index_forms.specs.Form.{iter, read, Form, form, no_terms, term, Forms, no_forms, and_form}
-use Rattle.index_forms.specs.Sums.{differences}
 use Rattle.index_knowledge.specs.Knowledge.{facts}
-use Rattle.certificate.specs.declared.derivation.Line.TheVariants as line
-use Rattle.certificate.specs.declared.derivation.Close.TheVariants as close
-use Rattle.certificate.specs.declared.derivation.Given.{Given}
 use Rattle.certificate_rules.specs.Derivations.{hyp, residue, fact}
 use Rattle.certificate_check.specs.Pairs.{KnownLoop}
 use Rattle.sharing_choice.specs.declared.derivations.Which.TheVariants as which
-use Rattle.sharing_choice.specs.Choosing.{chosen, pairs_of, DerivedPair, derivations}
+use Rattle.sharing_choice.specs.Choosing.{chosen, derivations}
 
 -- x, y, and the index array c
 abbrev x : List ℕ

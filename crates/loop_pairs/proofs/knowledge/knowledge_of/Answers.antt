@@ -1,4 +1,4 @@
-use Rattle.std.proofs.Common.{◌≡◌, length, ap, sym, ◌∙◌}
+use Rattle.std.proofs.Common.{length, ap, sym, ◌∙◌}
 use Rattle.fl_ast.specs.declared.stmt.Program.{Program}
 use Rattle.index_forms.specs.declared.form.Side.TheVariants.{One, Two}
 use Rattle.index_forms.specs.Listed.{all_forms_seen}
