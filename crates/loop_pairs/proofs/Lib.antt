@@ -3,3 +3,4 @@ pub mod Forms
 pub mod Loops
 pub mod Typed
 pub mod Surveys
+pub mod Numbered

@@ -2,6 +2,8 @@
 #![tactic(auto)]
 
 mod knowledge;
+mod laws;
 mod program;
 
+pub use laws::loops_stand_at_their_numbers;
 pub use program::known_loops;
