@@ -1,2 +1,3 @@
 pub mod Disjointness
 pub mod Texts
+mod Examples
