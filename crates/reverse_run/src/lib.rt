@@ -4,6 +4,8 @@
 mod bounds;
 mod evaluations;
 mod iterations;
+mod statements;
 mod stores;
 
+pub use statements::undo_all;
 pub use stores::undo_store;
