@@ -1,11 +1,10 @@
 -- Bounds of loops, from the words on a tape.
-use Rattle.std.specs.Prelude.{◌≡◌, ℕ, ◌/◌, ◌%◌, ℤ, pos, ◌+ℤ◌, ◌-ℤ◌, int_div, List, [], ◌∷◌, Option, refl}
+use Rattle.std.specs.Prelude.{◌≡◌, ℕ, ◌/◌, ◌%◌, ℤ, ◌+ℤ◌, ◌-ℤ◌, int_div, [], ◌∷◌, Option}
 use Rattle.std.proofs.Common.{ap, sym, subst, ◌∙◌}
 use Rattle.store_core.specs.Bounds.{clipped}
 use Rattle.meaning.specs.declared.value.IterationCount.{IterationCount}
-use Rattle.sweep_evaluation.specs.Machine.{Ran, ran, ◌to◌, narrow}
-use Rattle.reverse_sweep.specs.Reversing.{Reversing}
-use Rattle.reverse_sweep.specs.Machine.{Counts, bounds_on, variable_set, variables_set}
+use Rattle.sweep_evaluation.specs.Machine.{ran, ◌to◌, narrow}
+use Rattle.reverse_sweep.specs.Machine.{variable_set, variables_set}
 use Rattle.reverse_state.specs.Holding.{Held, Gives, Leaves, word_taken, on_local}
 use Rattle.reverse_state.proofs.Joining.{gives_nothing, gives_both, leaves_both}
 use Rattle.reverse_run.specs.declared.bounds.Round.{Round}

@@ -1,13 +1,13 @@
 -- What an iteration begins with, and the sums that it adds.
-use Rattle.std.specs.Prelude.{◌≡◌, ◌<◌, ◌≤◌, ◌+◌, ◌-◌, ℕ, zero, suc, Bool, true, false, ◌&&◌, nat_lt, List, [], ◌∷◌, ◌++◌, length, take, drop, slice_index_or, Option, refl}
-use Rattle.std.proofs.Common.{ap, sym, subst, ◌∙◌, arith}
+use Rattle.std.specs.Prelude.{◌≡◌, ◌<◌, ◌+◌, ℕ, zero, suc, Bool, true, nat_lt, List, [], ◌∷◌, ◌++◌, length, take, drop, slice_index_or, Option, refl}
+use Rattle.std.proofs.Common.{ap, sym, arith}
 use Rattle.std.proofs.lemmas.Bool.{and_parts}
 use Rattle.std.proofs.lemmas.Bool.Decides.{nat_tests}
 use Rattle.std.proofs.lemmas.List.{drop_more, get_or_default}
 use Rattle.transposition.specs.Worlds.{Local}
 use Rattle.sweep_steps.specs.declared.step.PrivateScalar.{PrivateScalar}
 use Rattle.sweep_evaluation.proofs.Doing.{taken_more}
-use Rattle.reverse_sweep.specs.Reversing.{Stage, Reversing, reversing, opened_sum, closed_sum, own_value_set, own_adjoint_set}
+use Rattle.reverse_sweep.specs.Reversing.{Stage, reversing, opened_sum, closed_sum, own_value_set, own_adjoint_set}
 use Rattle.reverse_sweep.specs.Machine.{Counts, private_refilled, privates_refilled, privates_cleared, opened_sums, closed_sums, variables_set}
 use Rattle.reverse_state.specs.Holding.{Held, Gives, Leaves, word_taken, on_local, on_stage}
 use Rattle.reverse_state.proofs.Joining.{leaves_both, leaves_by, gives_leaves}

@@ -1,8 +1,7 @@
 -- Numbers of iterations, and of turns.
-use Rattle.std.specs.Prelude.{◌≡◌, ℕ, zero, suc, ◌<◌, ◌*◌, ◌/◌, ℤ, pos, negsuc, neg_ℤ, int_div, refl}
-use Rattle.std.proofs.Common.{ap, sym, subst, ◌∙◌, arith}
+use Rattle.std.specs.Prelude.{◌≡◌, ℕ, zero, suc, ◌<◌, ◌*◌, ◌/◌, ℤ, pos, negsuc, neg_ℤ, int_div}
+use Rattle.std.proofs.Common.{ap, arith}
 use Rattle.std.proofs.Math.Nat.{div-lt_iff_lt-mul}
-use Rattle.std.proofs.lemmas.Int.{ints}
 use Rattle.store_core.specs.Bounds.{clipped}
 
 pub some_room : (k a b : ℕ) → k < a * b → 0 < b

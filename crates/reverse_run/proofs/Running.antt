@@ -1,15 +1,15 @@
 -- Increments of adjoints and terms, one after the other.
-use Rattle.std.specs.Prelude.{◌≡◌, ℕ, zero, suc, ◌+◌, Bool, if◌then◌else◌, List, [], ◌∷◌, ◌++◌, map, take, refl}
-use Rattle.std.proofs.Common.{ap, sym, subst, ◌∙◌}
+use Rattle.std.specs.Prelude.{◌≡◌, ℕ, if◌then◌else◌, List, [], ◌∷◌, ◌++◌, map, refl}
+use Rattle.std.proofs.Common.{sym}
 use Rattle.ring_core.specs.Ring.{ring_add, ring_sub, ring_mul}
 use Rattle.resolved.specs.SlotTables.{Names}
-use Rattle.sweep_trees.specs.Split.{RingTree, ring_tree}
+use Rattle.sweep_trees.specs.Split.{ring_tree}
 use Rattle.sweep_steps.specs.declared.step.Term.{Term}
 use Rattle.sweep_steps.specs.Steps.{term_tree}
 use Rattle.undo_steps.specs.declared.undo.Factor.{Factor}
 use Rattle.undo_steps.specs.declared.undo.Growth.{Growth}
 use Rattle.undo_steps.specs.UndoSteps.{factor_tree, growth_tree}
-use Rattle.sweep_evaluation.specs.Machine.{Ran, ran, ◌to◌, ring_value}
+use Rattle.sweep_evaluation.specs.Machine.{ran, ◌to◌, ring_value}
 use Rattle.reverse_sweep.specs.Reversing.{Reversing, told}
 use Rattle.reverse_sweep.specs.Machine.{factor_value, product, growth_run, growths_run, rest_sum}
 use Rattle.reverse_state.specs.Holding.{Held, Gives, Leaves}

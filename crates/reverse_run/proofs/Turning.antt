@@ -1,9 +1,9 @@
 -- Turns and iterations, one after the other.
-use Rattle.std.specs.Prelude.{◌≡◌, ℕ, zero, suc, ◌+◌, Bool, true, false, List, [], ◌∷◌, Option, Some, None, refl}
-use Rattle.std.proofs.Common.{ap, sym, subst, ◌∙◌, arith}
-use Rattle.reverse_sweep.specs.Reversing.{Stage, Reversing, reversing}
+use Rattle.std.specs.Prelude.{◌≡◌, ℕ, suc, ◌+◌, true, false, refl}
+use Rattle.std.proofs.Common.{subst, ◌∙◌, arith}
+use Rattle.reverse_sweep.specs.Reversing.{Stage, Reversing}
 use Rattle.reverse_sweep.specs.Machine.{turns_undone, iterations_undone}
-use Rattle.reverse_state.specs.Holding.{Held, Home, home_of, Stands, Keeps, Leaves}
+use Rattle.reverse_state.specs.Holding.{Held, Home, Stands, Keeps, Leaves}
 use Rattle.reverse_state.proofs.Joining.{keeps_both}
 use Rattle.reverse_run.specs.Undoing.{Works}
 

@@ -1,18 +1,16 @@
 -- Statements that are undone: choices, iterations, and parallel loops.
-use Rattle.std.specs.Prelude.{◌≡◌, ◌<◌, ◌≤◌, ◌+◌, ℕ, zero, suc, Bool, true, false, ◌&&◌, List, [], ◌∷◌, length, map, slice_index_or, Option, Some, None, is_some, refl}
+use Rattle.std.specs.Prelude.{◌≡◌, ◌<◌, ◌≤◌, ℕ, zero, suc, Bool, true, false, List, [], ◌∷◌, length, slice_index_or, Option, Some, None, is_some, refl}
 use Rattle.std.proofs.Common.{rules, ap, sym, subst, ◌∙◌, arith}
 use Rattle.std.proofs.lemmas.Bool.{and_parts}
 use Rattle.resolved.specs.SlotTables.{Names}
-use Rattle.transposition.specs.Tapes.{Tape, tape_at, top_tapes}
+use Rattle.transposition.specs.Tapes.{tape_at, top_tapes}
 use Rattle.transposition.specs.Worlds.{Local}
 use Rattle.sweep_steps.specs.declared.step.PrivateScalar.{PrivateScalar}
 use Rattle.sweep_steps.specs.declared.step.Flow.{the_lemmas as flow_lemmas}
 use Rattle.sweep_steps.specs.declared.step.Flow.TheVariants as flow
-use Rattle.undo_steps.specs.UndoSteps.{UndoStep, UndoArm, UndoTree, undo_choice, UndoTrees, UndoArms, undo_arm, undo_tree, undo_trees, undo_arm_tree, undo_arm_trees}
-use Rattle.sweep_evaluation.specs.Machine.{Ran, ran}
+use Rattle.undo_steps.specs.UndoSteps.{UndoStep, UndoArm, undo_choice, UndoTrees, undo_tree, undo_trees, undo_arm_tree, undo_arm_trees}
 use Rattle.reverse_sweep.specs.Reversing.{Stage, Reversing, reversing, on_tape, popped}
 use Rattle.reverse_sweep.specs.Machine.{Counts, undo_run, undos_run, arm_run, variables_set, privates_refilled, privates_cleared, opened_sums, closed_sums, count_of, iteration_undone, iterations_undone, parallel_undone}
-use Rattle.reverse_state.specs.Reading.{now_of}
 use Rattle.reverse_state.specs.Holding.{Held, Home, home_of, local_of, Stands, Keeps, Gives, Leaves, word_taken, on_stage, Enters, Begins, Quits}
 use Rattle.reverse_state.proofs.Joining.{gives_leaves, leaves_both, leaves_by}
 use Rattle.reverse_run.specs.Undoing.{is_flat, are_flat, are_arms_flat, is_within, counts_taken, Works}
@@ -85,12 +83,12 @@ pub iteration_worked : (u v w x y : Held) (names : Names) (counts : Counts) (k :
     → Works u y (λ m g. (iteration_undone u.shared ps qs counts m.tapes (undos_run names u.shared us) m.entry k g).stage)
 iteration_worked u v w x y names counts k ps qs us b p d e =
     let L : Leaves v y (λ s. on_stage (closed_sums v.shared qs) (undos_run names v.shared us (reversing (privates_cleared v.shared ps (privates_refilled v.shared ps (variables_set v.shared counts k s.local))) (opened_sums v.shared qs s.stage)))) =
-        leaves_both {u = v} {v = w} {w = y} (λ n s. reversing (privates_cleared n ps (privates_refilled n ps (variables_set n counts k s.local))) (opened_sums n qs s.stage)) (λ n s. on_stage (closed_sums n qs) (undos_run names n us s)) p
-        (leaves_both {u = w} {v = x} {w = y} (λ n. undos_run names n us) (λ n. on_stage (closed_sums n qs)) d e)
+    leaves_both {u = v} {v = w} {w = y} (λ n s. reversing (privates_cleared n ps (privates_refilled n ps (variables_set n counts k s.local))) (opened_sums n qs s.stage)) (λ n s. on_stage (closed_sums n qs) (undos_run names n us s)) p
+    (leaves_both {u = w} {v = x} {w = y} (λ n. undos_run names n us) (λ n. on_stage (closed_sums n qs)) d e)
     in
     let at : y.lost ≡ false → (m : Home) → home_of u ≡ Some m → (g : Stage) → g.cells ≡ u.cells → g.sums ≡ u.sums → Stands y (iteration_undone u.shared ps qs counts m.tapes (undos_run names u.shared us) m.entry k g) = λ l m h g c f.
-        subst (λ n. Stands y (iteration_undone n ps qs counts m.tapes (undos_run names n us) m.entry k g)) b.stage.shared
-        (L.leaves l (reversing (on_tape (tape_at m.tapes k) m.entry) g) (record { local = sym (b.local m h); cells = c ∙ sym b.stage.cells; sums = f ∙ sym b.stage.sums }))
+    subst (λ n. Stands y (iteration_undone n ps qs counts m.tapes (undos_run names n us) m.entry k g)) b.stage.shared
+    (L.leaves l (reversing (on_tape (tape_at m.tapes k) m.entry) g) (record { local = sym (b.local m h); cells = c ∙ sym b.stage.cells; sums = f ∙ sym b.stage.sums }))
     in
     record {
       before = λ l. sym b.stage.lost ∙ L.before l;

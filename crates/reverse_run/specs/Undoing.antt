@@ -1,8 +1,6 @@
 -- What a reverse sweep asks of statements, and loops by their bounds.
-use Rattle.std.specs.Prelude.{◌≡◌, ℕ, ◌<◌, Bool, true, false, not, ◌&&◌, nat_lt, List, [], ◌∷◌, Option, Some, None, is_some}
+use Rattle.std.specs.Prelude.{◌≡◌, ℕ, Bool, true, false, not, ◌&&◌, nat_lt, List, [], ◌∷◌, Option, Some, is_some}
 use Rattle.meaning.specs.declared.value.IterationCount.{IterationCount}
-use Rattle.transposition.specs.Tapes.{Tape}
-use Rattle.transposition.specs.Worlds.{Local}
 use Rattle.forward_sweep.specs.Machine.{HasNumbers}
 use Rattle.undo_steps.specs.UndoSteps.{AroundUndo, back_turns, back_iterations, UndoTree, undo_store, undo_choice, undo_loop, UndoTrees, no_undos, undos, UndoArms, no_undo_arms, undo_arm}
 use Rattle.sweep_evaluation.specs.Machine.{Ran, ran}

@@ -53,7 +53,12 @@ fn undo_step<C: Cells>(run: &mut Reverse<C>, table: &SlotTable, step: &UndoStep)
 
 /// Undoes the turns of a sequential loop, the last one first.
 #[cycle(undoing)]
-fn undo_turns<C: Cells>(run: &mut Reverse<C>, table: &SlotTable, place: Option<u32>, body: &[UndoStep])
+fn undo_turns<C: Cells>(
+    run: &mut Reverse<C>,
+    table: &SlotTable,
+    place: Option<u32>,
+    body: &[UndoStep],
+)
     requires flat { run.old.lost ≡ false → are_flat run.old.shared (is_within run.old) (undo_trees body.now) ≡ true }
     ensures { Leaves run.old run.new (loop_undone run.old.shared place (undos_run table.now run.old.shared (undo_trees body.now))) }
 {

@@ -1,9 +1,9 @@
 -- Steps of a reverse sweep, one after the other. Each may depend on the number of shared places, which stays.
-use Rattle.std.specs.Prelude.{◌≡◌, ℕ, Bool, true, false, refl}
-use Rattle.std.proofs.Common.{ap, sym, subst, ◌∙◌}
+use Rattle.std.specs.Prelude.{◌≡◌, ℕ, refl}
+use Rattle.std.proofs.Common.{sym, subst, ◌∙◌}
 use Rattle.sweep_evaluation.specs.Machine.{Ran, ran}
 use Rattle.reverse_sweep.specs.Reversing.{Reversing}
-use Rattle.reverse_state.specs.Holding.{Held, home_of, Stands, Keeps, Gives, Leaves}
+use Rattle.reverse_state.specs.Holding.{Held, Stands, Keeps, Gives, Leaves}
 
 pub keeps_both : {u v w : Held} → Keeps u v → Keeps v w → Keeps u w
 keeps_both a b = record { shared = b.shared ∙ a.shared; home = b.home ∙ a.home }

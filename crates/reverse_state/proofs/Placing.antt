@@ -1,5 +1,5 @@
 -- Evaluations over places are those of the reverse machine, with what is around beside them.
-use Rattle.std.specs.Prelude.{◌≡◌, ℕ, ℤ, Bool, true, false, not, ◌&&◌, ◌||◌, nat_lt, List, [], ◌∷◌, Option, Some, None, Result, Ok, Err, neg_ℤ, refl}
+use Rattle.std.specs.Prelude.{◌≡◌, ℕ, ℤ, Bool, false, not, ◌&&◌, ◌||◌, List, [], ◌∷◌, Option, Some, None, Result, Ok, Err, neg_ℤ, refl}
 use Rattle.std.specs.Int.{int_pow}
 use Rattle.std.proofs.Common.{ap, sym, subst, ◌∙◌}
 use Rattle.ring_core.specs.declared.index.IndexTrap.{IndexTrap}
@@ -9,9 +9,9 @@ use Rattle.store_core.specs.Keys.{place_in_slot}
 use Rattle.meaning.specs.Values.{compares}
 use Rattle.resolved.specs.SlotTables.{Names}
 use Rattle.sweep_trees.specs.Split.{SpotTree, scalar, element, elements, IndexTree, number, index_get, index_minus, index_binary, index_power, index_larger, index_smaller, index_remainder, index_absolute, IndexTrees, no_indices, index, RingTree, word, ring_get, widened, ring_minus, ring_binary, ring_power, ring_larger, ring_smaller, ring_absolute, TestTree, index_test, ring_test, not_test, and_test, or_test}
-use Rattle.sweep_evaluation.specs.Machine.{Ran, ran, ◌to◌, Does, exactly, index_found, larger_index, smaller_index, absolute_index, narrow, widen, ring_found, larger_word, smaller_word, absolute_word, load_at, spot_slot, is_accessed, spot_place, spot_word, index_value, index_values, ring_value, test_value}
-use Rattle.reverse_sweep.specs.Reversing.{Stage, Reversing, reversing, told}
-use Rattle.reverse_state.specs.Holding.{Held, Home, home_of, local_of, Stands, Keeps, Gives, Placed, placed, told_placed, PlacedStands}
+use Rattle.sweep_evaluation.specs.Machine.{Ran, ran, ◌to◌, Does, exactly, index_found, larger_index, smaller_index, absolute_index, narrow, widen, ring_found, larger_word, smaller_word, absolute_word, load_at, spot_slot, is_accessed, spot_place, index_value, index_values, ring_value, test_value}
+use Rattle.reverse_sweep.specs.Reversing.{Reversing, reversing, told}
+use Rattle.reverse_state.specs.Holding.{Held, Home, home_of, local_of, Stands, Gives, Placed, placed, told_placed, PlacedStands}
 
 -- where places stand beside what they are of: their number, and the loop's entry
 pub record Around : Type 0 where

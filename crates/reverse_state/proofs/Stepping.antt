@@ -1,11 +1,10 @@
 -- Steps of a reverse sweep.
-use Rattle.std.specs.Prelude.{◌≡◌, ◌+◌, ℕ, Bool, true, false, List, [], ◌∷◌, Option, Some, None, refl}
+use Rattle.std.specs.Prelude.{◌≡◌, ℕ, List, Option, Some, None, refl}
 use Rattle.std.proofs.Common.{ap, sym, subst, ◌∙◌}
 use Rattle.transposition.specs.Tapes.{Tape, Tapes, tape_at}
-use Rattle.transposition.specs.Worlds.{Local}
-use Rattle.reverse_sweep.specs.Reversing.{Stage, Reversing, reversing, on_tape, first_sum, later_sums, added, closed_sum}
+use Rattle.reverse_sweep.specs.Reversing.{Reversing, reversing, on_tape, first_sum, later_sums, added, closed_sum}
 use Rattle.reverse_state.specs.Reading.{now_of, around_of}
-use Rattle.reverse_state.specs.Holding.{Held, Home, home_by, local_of, Stands, Keeps, KeepsStage, Leaves, on_stage, Begins}
+use Rattle.reverse_state.specs.Holding.{Held, Home, home_by, Stands, KeepsStage, Leaves, on_stage, Begins}
 
 some_home : (o : Option Home) (a b : Home) → o ≡ Some a → o ≡ Some b → a ≡ b
 some_home o a b e f = cc

@@ -1,12 +1,12 @@
 -- Sums by their positions.
-use Rattle.std.specs.Prelude.{◌≡◌, ◌≢◌, ◌<◌, ◌+◌, ◌==◌, if◌then◌else◌, nat_eq, ℕ, zero, suc, Bool, true, false, List, [], ◌∷◌, ◌++◌, length, map, reverse, drop, Option, Some, None, slice_index_or, slice_set, refl}
-use Rattle.std.proofs.Common.{ap, sym, subst, ◌∙◌, arith}
+use Rattle.std.specs.Prelude.{◌≡◌, ◌≢◌, ◌<◌, ◌==◌, if◌then◌else◌, ℕ, zero, suc, Bool, true, false, List, [], ◌∷◌, ◌++◌, length, map, reverse, drop, Option, Some, None, slice_index_or, slice_set, refl}
+use Rattle.std.proofs.Common.{ap, ◌∙◌, arith}
 use Rattle.std.proofs.lemmas.List.{reverse-append, map-append}
 use Rattle.std.proofs.lemmas.Bool.Decides.{nat_tests}
 use Rattle.ring_core.specs.Ring.{ring_add}
 use Rattle.reverse_sweep.specs.Reversing.{Sums, behind, summed}
 use Rattle.reverse_state.specs.declared.sums.Sum.{Sum}
-use Rattle.reverse_state.specs.Holding.{sum_pair, sums_back, with_added, cell_in, summed_at}
+use Rattle.reverse_state.specs.Holding.{sum_pair, sums_back, with_added, cell_in}
 
 pub cell_by : (ss : List Sum) (i : ℕ) (d : Sum) → i < length ss → (slice_index_or ss i d).cell ≡ cell_in ss i
 cell_by [] i d h = absurd (omega (arith, h))

@@ -1,11 +1,11 @@
 -- What a reverse sweep has at hand, and what its steps leave.
-use Rattle.std.specs.Prelude.{◌≡◌, ◌≤◌, ◌+◌, ℕ, zero, suc, Bool, true, false, List, [], ◌∷◌, length, map, reverse, Option, Some, None}
+use Rattle.std.specs.Prelude.{◌≡◌, ◌≤◌, ◌+◌, ℕ, zero, suc, Bool, false, List, [], ◌∷◌, length, map, reverse, Option, Some, None}
 use Rattle.ring_core.specs.Ring.{ring_add}
 use Rattle.operations.specs.declared.op.Op.{Op}
-use Rattle.transposition.specs.Tapes.{Tape, Tapes, tape_at, top, rest, top_tapes}
+use Rattle.transposition.specs.Tapes.{Tape, Tapes, tape_at, top, top_tapes}
 use Rattle.transposition.specs.Worlds.{Local}
 use Rattle.sweep_evaluation.specs.Machine.{Ran, ran, Told}
-use Rattle.reverse_sweep.specs.Reversing.{Sums, Stage, Reversing, reversing, on_tape, popped, told, loaded_cell}
+use Rattle.reverse_sweep.specs.Reversing.{Sums, Stage, Reversing, reversing, on_tape, popped, told}
 use Rattle.reverse_state.specs.declared.sums.Sum.{Sum}
 use Rattle.reverse_state.specs.Reading.{TapeReading, now_of, around_of}
 

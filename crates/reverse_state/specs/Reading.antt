@@ -1,7 +1,7 @@
 -- The tape as a reverse sweep reads it.
 use Rattle.std.specs.Prelude.{◌≡◌, ◌≤◌, ℕ, List, [], ◌∷◌, length, map, reverse, Option, Some, None, take, slice_index_or}
 use Rattle.store_core.specs.Tapes.{Item, word, lists, IterationLists}
-use Rattle.transposition.specs.Tapes.{Tape, empty, Tapes, none, tape_at, top, rest, top_tapes}
+use Rattle.transposition.specs.Tapes.{Tape, empty, Tapes, none, top, rest}
 use Rattle.forward_law.specs.Forward.{words_on, tapes_back, tape_back}
 use Rattle.reverse_state.specs.declared.back_tape.TapeItem.{TapeItem}
 use Rattle.reverse_state.specs.declared.back_tape.TapeItem.TheVariants as item

@@ -1,4 +1,4 @@
-use Rattle.std.proofs.Common.{rules, refl}
+use Rattle.std.proofs.Common.{refl}
 use Rattle.forward_sweep.proofs.Bounds.{turns_fit, fit_by}
 use Rattle.reverse_run.proofs.Bounding.{bounds_given}
 use Rattle.reverse_run.proofs.bounds.bounds.Goals as goal

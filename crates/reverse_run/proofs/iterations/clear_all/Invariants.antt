@@ -1,4 +1,4 @@
-use Rattle.std.specs.Prelude.{◌≡◌, take}
+use Rattle.std.specs.Prelude.{take}
 use Rattle.reverse_sweep.specs.Machine.{privates_cleared}
 use Rattle.reverse_state.specs.Holding.{Leaves, on_local}
 use Rattle.reverse_run.proofs.iterations.clear_all.Given as goal

@@ -1,4 +1,4 @@
-use Rattle.std.proofs.Common.{rules, ◌≡◌, ◌<◌, ℕ, List, sym, subst, take, arith, false, slice_index_or}
+use Rattle.std.proofs.Common.{rules, ◌≡◌, ◌<◌, ℕ, List, sym, subst, take, false, slice_index_or}
 use Rattle.sweep_evaluation.proofs.Doing.{taken_all}
 use Rattle.reverse_sweep.specs.Machine.{closed_sums}
 use Rattle.reverse_state.specs.Holding.{Leaves, on_stage}

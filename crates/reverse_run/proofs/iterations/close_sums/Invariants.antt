@@ -1,4 +1,4 @@
-use Rattle.std.specs.Prelude.{◌≡◌, take}
+use Rattle.std.specs.Prelude.{take}
 use Rattle.reverse_sweep.specs.Machine.{closed_sums}
 use Rattle.reverse_state.specs.Holding.{Leaves, on_stage}
 use Rattle.reverse_run.proofs.iterations.close_sums.Given as goal

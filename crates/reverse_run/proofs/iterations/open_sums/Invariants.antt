@@ -1,4 +1,4 @@
-use Rattle.std.proofs.Common.{◌≡◌, drop}
+use Rattle.std.proofs.Common.{drop}
 use Rattle.reverse_sweep.specs.Machine.{opened_sums}
 use Rattle.reverse_state.specs.Holding.{Leaves, on_stage}
 use Rattle.reverse_run.proofs.iterations.open_sums.Given as goal

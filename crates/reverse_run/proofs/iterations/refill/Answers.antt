@@ -1,4 +1,3 @@
-use Rattle.std.proofs.Common.{rules}
 use Rattle.reverse_run.proofs.Iterating.{refilled}
 use Rattle.reverse_run.proofs.iterations.refill.Goals as goal
 

@@ -1,6 +1,5 @@
-use Rattle.std.proofs.Common.{rules, ◌≡◌, ◌-◌, ◌+◌, sym, subst, drop, arith, List, []}
+use Rattle.std.proofs.Common.{rules, ◌≡◌, ◌-◌, ◌+◌, subst, drop, arith}
 use Rattle.reverse_sweep.specs.Machine.{privates_refilled}
-use Rattle.sweep_steps.specs.declared.step.PrivateScalar.{PrivateScalar}
 use Rattle.reverse_state.specs.Holding.{Leaves, on_local}
 use Rattle.reverse_run.proofs.Iterating.{refilled_more}
 use Rattle.reverse_run.proofs.iterations.refill_all.Goals as goal

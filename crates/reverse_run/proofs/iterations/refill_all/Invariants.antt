@@ -1,4 +1,4 @@
-use Rattle.std.proofs.Common.{◌≡◌, drop}
+use Rattle.std.proofs.Common.{drop}
 use Rattle.reverse_sweep.specs.Machine.{privates_refilled}
 use Rattle.reverse_state.specs.Holding.{Leaves, on_local}
 use Rattle.reverse_run.proofs.iterations.refill_all.Given as goal

@@ -1,4 +1,4 @@
-use Rattle.std.proofs.Common.{rules, ◌≡◌, ◌-◌, ◌+◌, ◌<◌, ◌≤◌, suc, ℕ, length, ap, sym, subst, ◌∙◌, arith, false, List, slice_index_or}
+use Rattle.std.proofs.Common.{rules, ◌≡◌, ◌-◌, ◌<◌, ◌≤◌, suc, ℕ, length, ap, subst, ◌∙◌, arith, List, slice_index_or}
 use Rattle.sweep_steps.specs.declared.step.Flow.{the_lemmas as flow_lemmas}
 use Rattle.undo_steps.specs.UndoSteps.{UndoArm, undo_trees, variable_places}
 use Rattle.reverse_sweep.specs.Machine.{undos_run, turn_undone, variable_set, count_of, iteration_undone, iterations_undone}
@@ -42,7 +42,7 @@ pub undo_iterations-returns : goal.undo_iterations-returns
 undo_iterations-returns g t c =
     let n : c.loop-k.k ≡ count_of (counts_back c.args.rounds.now) = search (rules) in
     subst (λ (j : ℕ). Works c.args.run.now c.loop-k.run (λ m. iterations_undone j (iteration_undone c.args.run.now.shared c.args.privates.now c.args.reductions.now (counts_back c.args.rounds.now) m.tapes
-        (undos_run c.args.table.now c.args.run.now.shared (undo_trees c.args.body.now)) m.entry))) n c.loop-k.invariant
+    (undos_run c.args.table.now c.args.run.now.shared (undo_trees c.args.body.now)) m.entry))) n c.loop-k.invariant
 
 pub undo_parallel-returns : goal.undo_parallel-returns
 undo_parallel-returns g t c =
@@ -54,8 +54,11 @@ undo_step-undo_all-requires g t c κs within =
     let h : c.pop-number.result < length c.in-If.arms = search (rules) in
     let e = subst (λ (xs : List UndoArm). c.index-arms-number.result ≡ slice_index_or xs c.pop-number.result c.index-arms-number.result) c.as_slice-arms.ensures c.index-arms-number.is in (
       search (rules, flow_lemmas),
-      (within, λ l. ap (λ us. are_flat c.pop-number.new.self.shared (is_within c.pop-number.new.self) (undo_trees us)) c.as_slice.ensures
-      ∙ arm_flat c.args.run.now c.pop-number.new.self c.args.step.now c.in-If.line c.in-If.arms c.in-If.other c.pop-number.result c.index-arms-number.result c.in-If.is c.requires.flat c.pop-number.ensures.before c.pop-number.ensures.keeps h e l),
+      (
+        within,
+        λ l. ap (λ us. are_flat c.pop-number.new.self.shared (is_within c.pop-number.new.self) (undo_trees us)) c.as_slice.ensures
+            ∙ arm_flat c.args.run.now c.pop-number.new.self c.args.step.now c.in-If.line c.in-If.arms c.in-If.other c.pop-number.result c.index-arms-number.result c.in-If.is c.requires.flat c.pop-number.ensures.before c.pop-number.ensures.keeps h e l,
+      ),
     )
 
 pub undo_step-returns-then-number-arms : goal.undo_step-returns-then-number-arms

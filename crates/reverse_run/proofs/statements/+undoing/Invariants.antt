@@ -1,4 +1,4 @@
-use Rattle.std.proofs.Common.{◌≡◌, drop}
+use Rattle.std.proofs.Common.{drop}
 use Rattle.undo_steps.specs.UndoSteps.{undo_trees}
 use Rattle.reverse_sweep.specs.Machine.{undos_run, turn_undone, iterations_undone, iteration_undone}
 use Rattle.reverse_state.specs.Holding.{Leaves}

@@ -1,4 +1,4 @@
-use Rattle.std.proofs.Common.{rules, ◌≡◌, ap, sym, subst, ◌∙◌, List, [], ◌∷◌, ◌++◌, ◌+◌, length, map, take}
+use Rattle.std.proofs.Common.{rules, ◌≡◌, subst, List, [], ◌∷◌, ◌++◌, ◌+◌, map, take}
 use Rattle.undo_steps.specs.declared.undo.Growth.{Growth}
 use Rattle.undo_steps.specs.UndoSteps.{growth_tree}
 use Rattle.sweep_evaluation.proofs.Doing.{taken_more, taken_all}

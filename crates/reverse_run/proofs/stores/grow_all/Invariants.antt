@@ -1,4 +1,4 @@
-use Rattle.std.specs.Prelude.{take, map, ◌≡◌}
+use Rattle.std.specs.Prelude.{take, map}
 use Rattle.undo_steps.specs.UndoSteps.{growth_tree}
 use Rattle.reverse_sweep.specs.Machine.{growths_run}
 use Rattle.reverse_state.specs.Holding.{Leaves}

@@ -1,4 +1,4 @@
-use Rattle.std.proofs.Common.{rules, ◌≡◌, ap, sym, subst, ◌∙◌, List, [], ◌∷◌, ◌++◌, ◌+◌, length, map, take}
+use Rattle.std.proofs.Common.{rules, ◌≡◌, subst, List, [], ◌∷◌, ◌++◌, ◌+◌, map, take}
 use Rattle.undo_steps.specs.declared.undo.Factor.{Factor}
 use Rattle.undo_steps.specs.UndoSteps.{factor_tree}
 use Rattle.sweep_evaluation.proofs.Doing.{taken_more, taken_all}

@@ -1,4 +1,4 @@
-use Rattle.std.specs.Prelude.{take, map, ◌≡◌}
+use Rattle.std.specs.Prelude.{take, map}
 use Rattle.undo_steps.specs.UndoSteps.{factor_tree}
 use Rattle.reverse_sweep.specs.Machine.{product}
 use Rattle.reverse_state.specs.Holding.{Gives}

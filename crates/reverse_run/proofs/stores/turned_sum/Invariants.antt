@@ -1,4 +1,4 @@
-use Rattle.std.specs.Prelude.{take, map, ◌≡◌}
+use Rattle.std.specs.Prelude.{take, map}
 use Rattle.sweep_steps.specs.Steps.{term_tree}
 use Rattle.reverse_sweep.specs.Machine.{rest_sum}
 use Rattle.reverse_state.specs.Holding.{Gives}

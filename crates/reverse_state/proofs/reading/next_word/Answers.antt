@@ -1,4 +1,4 @@
-use Rattle.std.proofs.Common.{rules, ◌≡◌, ◌∙◌, ap, sym, ◌<◌, arith, slice_index, ◌-◌}
+use Rattle.std.proofs.Common.{rules, ◌∙◌, ap, slice_index, ◌-◌}
 use Rattle.reverse_state.proofs.Taken.{takes_word}
 use Rattle.reverse_state.proofs.reading.next_word.Goals as goal
 

@@ -1,4 +1,4 @@
-use Rattle.std.proofs.Common.{rules, ◌≡◌, ap, sym}
+use Rattle.std.proofs.Common.{rules}
 use Rattle.reverse_state.specs.Reading.{now_of}
 use Rattle.reverse_state.proofs.Taken.{none_begun, some_begun}
 use Rattle.reverse_state.proofs.reading.Reading.begin.Goals as goal

@@ -1,4 +1,4 @@
-use Rattle.std.proofs.Common.{rules, ◌≡◌, refl, ◌∙◌}
+use Rattle.std.proofs.Common.{refl, ◌∙◌}
 use Rattle.reverse_state.proofs.Stepping.{held_begun}
 use Rattle.reverse_state.proofs.reverse.Reverse.begin.Goals as goal
 

@@ -1,6 +1,4 @@
-use Rattle.std.proofs.Common.{rules, ◌≡◌, ◌+◌, sym, subst}
-use Rattle.reverse_sweep.specs.Reversing.{later_sums, first_sum, added}
-use Rattle.reverse_state.specs.Holding.{Held, Leaves, on_stage}
+use Rattle.std.proofs.Common.{◌+◌}
 use Rattle.reverse_state.proofs.Stepping.{sum_closed}
 use Rattle.reverse_state.proofs.reverse.Reverse.close_sum.Goals as goal
 

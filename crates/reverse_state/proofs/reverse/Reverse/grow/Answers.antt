@@ -1,4 +1,3 @@
-use Rattle.std.proofs.Common.{rules}
 use Rattle.reverse_state.proofs.reverse.Reverse.grow.Goals as goal
 
 pub returns-then-one_step : goal.returns-then-one_step
