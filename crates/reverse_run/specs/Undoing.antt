@@ -1,11 +1,13 @@
 -- What a reverse sweep asks of statements, and loops by their bounds.
-use Rattle.std.specs.Prelude.{◌≡◌, ℕ, Bool, true, false, not, ◌&&◌, nat_lt, List, [], ◌∷◌, Option, Some, is_some}
+use Rattle.std.specs.Prelude.{◌≡◌, ℕ, Bool, true, false, not, ◌&&◌, nat_lt, List, [], ◌∷◌, Option, Some, is_some, replicate}
 use Rattle.meaning.specs.declared.value.IterationCount.{IterationCount}
 use Rattle.forward_sweep.specs.Machine.{HasNumbers}
 use Rattle.undo_steps.specs.UndoSteps.{AroundUndo, back_turns, back_iterations, UndoTree, undo_store, undo_choice, undo_loop, UndoTrees, no_undos, undos, UndoArms, no_undo_arms, undo_arm}
 use Rattle.sweep_evaluation.specs.Machine.{Ran, ran}
 use Rattle.reverse_sweep.specs.Reversing.{Stage, Reversing, reversing, on_tape}
-use Rattle.reverse_sweep.specs.Machine.{Counts, bounds_on, below_words, counts_on, below_counts}
+use Rattle.resolved.specs.SlotTables.{Names}
+use Rattle.transposition.specs.Tapes.{Tape}
+use Rattle.reverse_sweep.specs.Machine.{Counts, bounds_on, below_words, counts_on, below_counts, undos_run}
 use Rattle.reverse_state.specs.Holding.{Held, Home, home_of, Keeps}
 use Rattle.reverse_run.specs.declared.bounds.Round.{Round}
 use Rattle.reverse_run.specs.declared.bounds.Rounds.{Rounds}
@@ -73,3 +75,13 @@ pub record Works (old new : Held) (f : Home → Stage → Stage) : Type 0 where
   pub keeps : new.lost ≡ false → Keeps old new
   pub cells : new.lost ≡ false → (m : Home) → home_of old ≡ Some m → (g : Stage) → g.cells ≡ old.cells → g.sums ≡ old.sums → (f m g).cells ≡ new.cells
   pub sums : new.lost ≡ false → (m : Home) → home_of old ≡ Some m → (g : Stage) → g.cells ≡ old.cells → g.sums ≡ old.sums → (f m g).sums ≡ new.sums
+
+-- ---- programs
+
+-- what a program's reverse sweep begins with: a tape, so many words of an iteration's own, which are 0, and cells
+abbrev pub opening : Tape → ℕ → List ℕ → Reversing
+opening t own c = reversing (record { tape = t; values = replicate own 0; adjoints = replicate own 0 }) (record { cells = c; sums = []; ops = [] })
+
+-- the cells after all statements are undone
+abbrev pub swept_back : Names → ℕ → UndoTrees → Tape → ℕ → List ℕ → List ℕ
+swept_back names n us t own c = (undos_run names n us (opening t own c)).stage.cells

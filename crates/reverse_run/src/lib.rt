@@ -6,6 +6,8 @@ mod evaluations;
 mod iterations;
 mod statements;
 mod stores;
+mod sweep;
 
 pub use statements::undo_all;
 pub use stores::undo_store;
+pub use sweep::sweep_back;
