@@ -4,3 +4,4 @@ pub mod Running
 pub mod Iterating
 pub mod Turning
 pub mod Undone
+mod Examples
