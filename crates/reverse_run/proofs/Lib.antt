@@ -4,4 +4,5 @@ pub mod Running
 pub mod Iterating
 pub mod Turning
 pub mod Undone
+pub mod Flatness
 mod Examples

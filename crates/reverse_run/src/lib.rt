@@ -4,10 +4,12 @@
 mod bounds;
 mod evaluations;
 mod iterations;
+mod laws;
 mod statements;
 mod stores;
 mod sweep;
 
+pub use laws::standing_is_flat;
 pub use statements::undo_all;
 pub use stores::undo_store;
 pub use sweep::sweep_back;
