@@ -1,11 +1,11 @@
 -- Small sweeps, which compute.
-use Rattle.std.specs.Prelude.{◌≡◌, ℕ, true, false, [], ◌∷◌, Some, None, refl}
+use Rattle.std.specs.Prelude.{◌≡◌, true, false, [], ◌∷◌, Some, None, refl}
 use Rattle.fl_types.specs.declared.choice.Choice.TheVariants.{Shared, Reduction}
 use Rattle.resolved.specs.SlotTables.{Names}
 use Rattle.sweep_trees.specs.Split.{SpotTree, scalar, word}
 use Rattle.transposition.specs.Tapes.{Tape, empty, many, none, more}
 use Rattle.transposition.specs.Tapes.{word as on_top}
-use Rattle.undo_steps.specs.UndoSteps.{GrowthTree, operand_factor, undo_plain, undo_increment, back_turns, back_iterations, UndoTree, undo_store, undo_choice, undo_loop, UndoTrees, no_undos, undos, undo_arm, no_undo_arms}
+use Rattle.undo_steps.specs.UndoSteps.{GrowthTree, operand_factor, undo_plain, undo_increment, back_iterations, UndoTree, undo_store, undo_choice, undo_loop, UndoTrees, no_undos, undos, undo_arm, no_undo_arms}
 use Rattle.reverse_run.specs.Undoing.{are_flat, swept_back}
 
 abbrev only : UndoTree → UndoTrees
