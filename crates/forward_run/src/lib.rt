@@ -8,7 +8,7 @@ mod sweep;
 mod values;
 mod watched;
 
-pub use opening::{Opened, open_program};
+pub use opening::{Opened, marks_of, open_program, stmts_of, table_of};
 pub use stop::ForwardStop;
 pub use sweep::{Forwarded, forward};
 pub use values::final_values;

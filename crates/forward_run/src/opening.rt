@@ -35,7 +35,7 @@ pub struct Opened {
 }
 
 /// The names of a program, all of which have places.
-fn table_of(alloc: Global, layout: &Layout, decls: &[Decl]) -> Result<SlotTable, Memory>
+pub fn table_of(alloc: Global, layout: &Layout, decls: &[Decl]) -> Result<SlotTable, Memory>
     requires { length (keys_of layout.now) + length decls.now ≤ 2 ^ 21 }
     ensures { IfOk result (λ table. table ≡ names_of layout.now decls.now) }
 {
@@ -47,7 +47,7 @@ fn table_of(alloc: Global, layout: &Layout, decls: &[Decl]) -> Result<SlotTable,
 }
 
 /// The statements of a program whose kinds fit, so that all names have slots.
-fn stmts_of(
+pub fn stmts_of(
     alloc: Global,
     layout: &Layout,
     decls: &[Decl],
@@ -70,7 +70,7 @@ fn stmts_of(
 }
 
 /// By slot whether a name is one of these.
-fn marks_of(alloc: Global, table: &SlotTable, names: &[Name]) -> Result<Items<bool>, Memory>
+pub fn marks_of(alloc: Global, table: &SlotTable, names: &[Name]) -> Result<Items<bool>, Memory>
     ensures { IfOk result (λ marks. marks ≡ map (λ (s : LaidShape). has_name_lem s.name names.now) table.now.0) }
 {
     let mut marks = Items::new(alloc);

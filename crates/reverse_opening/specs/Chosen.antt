@@ -1,0 +1,53 @@
+-- How adjoints are incremented in each parallel loop, by name and by slot.
+use Rattle.std.specs.Prelude.{◌≡◌, ℕ, zero, suc, ◌+◌, max, ◌&&◌, nat_eq, Bool, if◌then◌else◌, List, [], ◌∷◌, ◌++◌, map}
+use Rattle.fl_ast.specs.Tree.{Subroutine}
+use Rattle.fl_types.specs.declared.choice.Choice.{Choice}
+use Rattle.fl_types.specs.declared.choice.Choice.TheVariants.{Atomic, Reduction}
+use Rattle.fl_types.specs.declared.choice.Chosen.{Chosen}
+use Rattle.fl_types.specs.Sharing.{has_name}
+use Rattle.store_core.specs.declared.layout.Shape.{Shape}
+use Rattle.adjoint_rules.specs.Scopes.{is_reduction, has_choice}
+use Rattle.resolved.specs.SlotTables.{Names, names_of}
+use Rattle.transposition.specs.Worlds.{World}
+use Rattle.transposition.specs.Programs.{program_world}
+use Rattle.undo_steps.specs.UndoSteps.{UndoTrees}
+use Rattle.undo_steps.specs.UndosStand.{AllUndoStand}
+
+abbrev pub choice_by : Bool → Choice
+choice_by collected = if collected then Reduction else Atomic
+
+-- a Reduction where it is chosen; everything else is incremented in one step
+abbrev pub made_choice : List Chosen → ℕ → List ℕ → Choice
+made_choice choices number x = choice_by (has_choice is_reduction choices number x)
+
+-- the world of a program for these choices
+abbrev pub chosen_world : Subroutine → List Shape → (pushed active : List ℕ → Bool) → List Chosen → World
+chosen_world p shapes pushed active choices = program_world p shapes pushed active (made_choice choices)
+
+-- the names of a program, and statements that undo the program's in its world
+pub record IsUndone (p : Subroutine) (shapes : List Shape) (pushed active : List ℕ → Bool) (choices : List Chosen) (names : Names) (us : UndoTrees) : Type 0 where
+  pub named : names ≡ names_of shapes p.decls
+  pub stands : AllUndoStand names (chosen_world p shapes pushed active choices) us p.body
+
+-- ---- by slot
+
+abbrev pub names_if : Bool → List ℕ → List (List ℕ) → List (List ℕ)
+names_if b x xs = if b then x ∷ xs else xs
+
+-- the names whose adjoints are collected in the loop with a number
+abbrev pub collected_in : List Chosen → ℕ → List (List ℕ)
+collected_in [] number = []
+collected_in (c ∷ cs) number = names_if (nat_eq c.loop_number number && is_reduction c.choice) c.name (collected_in cs number)
+
+abbrev pub row_in : List Shape → List (List ℕ) → List Choice
+row_in shapes names = map (λ (s : Shape). choice_by (has_name s.name names)) shapes
+
+-- more than the number of any loop for which there is a choice
+abbrev pub count_in : List Chosen → ℕ
+count_in [] = 0
+count_in (c ∷ cs) = max (c.loop_number + 1) (count_in cs)
+
+-- the choices in the loops whose numbers are below n
+abbrev pub rows_below : List Shape → List Chosen → ℕ → List (List Choice)
+rows_below shapes choices zero = []
+rows_below shapes choices (suc n) = rows_below shapes choices n ++ row_in shapes (collected_in choices n) ∷ []
