@@ -17,13 +17,12 @@ pub record Told : Type 0 where
 abbrev pub told : UndoNames → Told
 told n = record { pushed = n.pushed.now; active = n.active.now; choices = n.choices.now; shared = n.shared }
 
--- where nothing is told, an increment is made in one step
 abbrev pub choice_or : Option Choice → Choice
-choice_or None = choice.Atomic
+choice_or None = choice.Shared
 choice_or (Some c) = c
 
 abbrev pub in_row : Option (List Choice) → ℕ → Choice
-in_row None slot = choice.Atomic
+in_row None slot = choice.Shared
 in_row (Some row) slot = choice_or (slice_get row slot)
 
 -- how the adjoint of a slot's name is incremented in the parallel loop with a number

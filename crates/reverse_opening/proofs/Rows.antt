@@ -4,13 +4,14 @@ use Rattle.std.specs.Cmp.{both_ways}
 use Rattle.std.proofs.lemmas.Option.{slice_get_past}
 use Rattle.std.proofs.lemmas.Bool.Decides.{nat_tests}
 use Rattle.std.proofs.lemmas.Slice.Eq.{bytes_eq-Decides}
+use Rattle.fl_types.specs.declared.choice.Choice.{Choice}
 use Rattle.fl_types.specs.declared.choice.Chosen.{Chosen}
 use Rattle.fl_types.specs.Sharing.{has_name}
 use Rattle.store_core.specs.declared.layout.Shape.{Shape}
-use Rattle.adjoint_rules.specs.Scopes.{is_reduction, has_choice}
+use Rattle.adjoint_rules.specs.Scopes.{is_atomic, is_reduction, has_choice}
 use Rattle.resolved.specs.ResolvedExprs.{slot_name}
 use Rattle.made_growths.specs.Told.{choice_or, in_row}
-use Rattle.reverse_opening.specs.Chosen.{choice_by, made_choice, names_if, collected_in, row_in, count_in, rows_below}
+use Rattle.reverse_opening.specs.Chosen.{choice_by, made_choice, names_if, names_in, row_in, count_in, rows_below}
 
 -- ---- names
 
@@ -30,11 +31,14 @@ has_if true true h x y ys q = ap (λ c. c || has_name x ys) (bytes_swap x y ∙ 
 has_if true false h x y ys q = q ∙ ap (λ c. c || h) (sym (and_no (bytes_eq y x)))
 has_if false r h x y ys q = q
 
-has_collected : (x : List ℕ) (cs : List Chosen) (number : ℕ) → has_name x (collected_in cs number) ≡ has_choice is_reduction cs number x
-has_collected x [] number = refl
-has_collected x (c ∷ cs) number = has_if (nat_eq c.loop_number number) (is_reduction c.choice) (has_choice is_reduction cs number x) x c.name (collected_in cs number) (has_collected x cs number)
+has_listed : (passes : Choice → Bool) (x : List ℕ) (cs : List Chosen) (number : ℕ) → has_name x (names_in passes cs number) ≡ has_choice passes cs number x
+has_listed passes x [] number = refl
+has_listed passes x (c ∷ cs) number = has_if (nat_eq c.loop_number number) (passes c.choice) (has_choice passes cs number x) x c.name (names_in passes cs number) (has_listed passes x cs number)
 
 -- ---- rows
+
+abbrev row_for : List Shape → List Chosen → ℕ → List Choice
+row_for shapes cs n = row_in shapes (names_in is_reduction cs n) (names_in is_atomic cs n)
 
 get_front : {A : Type 0} (xs ys : List A) (k : ℕ) (r : A) → slice_get xs k ≡ Some r → slice_get (xs ++ ys) k ≡ Some r
 get_front [] ys k r e = absurd (cc)
@@ -49,45 +53,51 @@ get_end (x ∷ xs) r (suc k) e = get_end xs r k (omega (arith, e))
 
 rows_long : (shapes : List Shape) (cs : List Chosen) (n : ℕ) → length (rows_below shapes cs n) ≡ n
 rows_long shapes cs zero = refl
-rows_long shapes cs (suc n) = length-append (rows_below shapes cs n) (row_in shapes (collected_in cs n) ∷ []) ∙ (ap (λ k. k + 1) (rows_long shapes cs n) ∙ omega arith)
+rows_long shapes cs (suc n) = length-append (rows_below shapes cs n) (row_for shapes cs n ∷ []) ∙ (ap (λ k. k + 1) (rows_long shapes cs n) ∙ omega arith)
 
-get_row : (shapes : List Shape) (cs : List Chosen) (n k : ℕ) (b : Bool) → nat_lt k n ≡ b → k < suc n → slice_get (rows_below shapes cs (suc n)) k ≡ Some (row_in shapes (collected_in cs k))
+get_row : (shapes : List Shape) (cs : List Chosen) (n k : ℕ) (b : Bool) → nat_lt k n ≡ b → k < suc n → slice_get (rows_below shapes cs (suc n)) k ≡ Some (row_for shapes cs k)
 get_row shapes cs zero k true e h = absurd (grind (arith, nat_tests))
 get_row shapes cs (suc n) k true e h =
-    get_front (rows_below shapes cs (suc n)) (row_in shapes (collected_in cs (suc n)) ∷ []) k (row_in shapes (collected_in cs k)) (get_row shapes cs n k (nat_lt k n) refl (grind (arith, nat_tests)))
+    get_front (rows_below shapes cs (suc n)) (row_for shapes cs (suc n) ∷ []) k (row_for shapes cs k) (get_row shapes cs n k (nat_lt k n) refl (grind (arith, nat_tests)))
 get_row shapes cs n k false e h =
     let last : k ≡ n = grind (arith, nat_tests) in
-    subst (λ (j : ℕ). slice_get (rows_below shapes cs (suc n)) k ≡ Some (row_in shapes (collected_in cs j))) (sym last)
-    (get_end (rows_below shapes cs n) (row_in shapes (collected_in cs n)) k (last ∙ sym (rows_long shapes cs n)))
+    subst (λ (j : ℕ). slice_get (rows_below shapes cs (suc n)) k ≡ Some (row_for shapes cs j)) (sym last)
+    (get_end (rows_below shapes cs n) (row_for shapes cs n) k (last ∙ sym (rows_long shapes cs n)))
 
-at_slot : (names : List (List ℕ)) (shapes : List Shape) (slot : ℕ) → slot < length shapes → choice_or (slice_get (row_in shapes names) slot) ≡ choice_by (has_name (slot_name shapes slot) names)
-at_slot names [] slot h = absurd (omega (arith, h))
-at_slot names (s ∷ ss) zero h = refl
-at_slot names (s ∷ ss) (suc k) h = at_slot names ss k (omega (arith, h))
+at_slot : (collected stepped : List (List ℕ)) (shapes : List Shape) (slot : ℕ) → slot < length shapes
+    → choice_or (slice_get (row_in shapes collected stepped) slot) ≡ choice_by (has_name (slot_name shapes slot) collected) (has_name (slot_name shapes slot) stepped)
+at_slot xs ys [] slot h = absurd (omega (arith, h))
+at_slot xs ys (s ∷ ss) zero h = refl
+at_slot xs ys (s ∷ ss) (suc k) h = at_slot xs ys ss k (omega (arith, h))
 
 none_or : (e b h : Bool) → e ≡ false → h ≡ false → ((e && b) || h) ≡ false
 none_or e b h p q = rw (p, q) refl
 
-none_beyond : (cs : List Chosen) (number : ℕ) (x : List ℕ) → count_in cs ≤ number → has_choice is_reduction cs number x ≡ false
-none_beyond [] number x h = refl
-none_beyond (c ∷ cs) number x h =
+none_beyond : (passes : Choice → Bool) (cs : List Chosen) (number : ℕ) (x : List ℕ) → count_in cs ≤ number → has_choice passes cs number x ≡ false
+none_beyond passes [] number x h = refl
+none_beyond passes (c ∷ cs) number x h =
     let both = parts (c.loop_number + 1) (count_in cs) number h in
     let first = both.0 in
-    none_or (nat_eq c.loop_number number) (bytes_eq c.name x && is_reduction c.choice) (has_choice is_reduction cs number x) (grind (arith, nat_tests)) (none_beyond cs number x both.1)
+    none_or (nat_eq c.loop_number number) (bytes_eq c.name x && passes c.choice) (has_choice passes cs number x) (grind (arith, nat_tests)) (none_beyond passes cs number x both.1)
   where
     parts : (a b n : ℕ) → max a b ≤ n → (a ≤ n) × (b ≤ n)
     parts a b n h = (omega (arith, h), omega (arith, h))
 
+two : (a b c d : Bool) → a ≡ b → c ≡ d → choice_by a c ≡ choice_by b d
+two a b c d e f = ap (λ x. choice_by x c) e ∙ ap (choice_by b) f
+
 within : (shapes : List Shape) (cs : List Chosen) (n number slot : ℕ) → number < n → slot < length shapes → made_choice cs number (slot_name shapes slot) ≡ in_row (slice_get (rows_below shapes cs n) number) slot
 within shapes cs zero number slot k h = absurd (omega (arith, k))
 within shapes cs (suc n) number slot k h =
-    ap choice_by (sym (has_collected (slot_name shapes slot) cs number))
-    ∙ (sym (at_slot (collected_in cs number) shapes slot h) ∙ ap (λ row. in_row row slot) (sym (get_row shapes cs n number (nat_lt number n) refl k)))
+    let x = slot_name shapes slot in
+    two _ _ _ _ (sym (has_listed is_reduction x cs number)) (sym (has_listed is_atomic x cs number))
+    ∙ (sym (at_slot (names_in is_reduction cs number) (names_in is_atomic cs number) shapes slot h) ∙ ap (λ row. in_row row slot) (sym (get_row shapes cs n number (nat_lt number n) refl k)))
 
 beyond : (shapes : List Shape) (cs : List Chosen) (number slot : ℕ) → count_in cs ≤ number → made_choice cs number (slot_name shapes slot) ≡ in_row (slice_get (rows_below shapes cs (count_in cs)) number) slot
 beyond shapes cs number slot k =
     let long = rows_long shapes cs (count_in cs) in
-    ap choice_by (none_beyond cs number (slot_name shapes slot) k)
+    let x = slot_name shapes slot in
+    two _ _ _ _ (none_beyond is_reduction cs number x k) (none_beyond is_atomic cs number x k)
     ∙ ap (λ row. in_row row slot) (sym (slice_get_past (rows_below shapes cs (count_in cs)) number (omega (arith, long, k))))
 
 pub rows_are : (shapes : List Shape) (cs : List Chosen) (number slot : ℕ) (b : Bool) → nat_lt number (count_in cs) ≡ b → slot < length shapes →

@@ -2,10 +2,10 @@
 
 ghost use Rattle.std.specs.Prelude.{◌≡◌, ◌<◌, ◌&&◌, nat_eq, ℕ, length, IfOk, slice_get};
 ghost use Rattle.fl_types.specs.Sharing.{has_name as has_name_lem};
-ghost use Rattle.adjoint_rules.specs.Scopes.{is_reduction as is_reduction_lem};
+ghost use Rattle.adjoint_rules.specs.Scopes.{is_atomic as is_atomic_lem, is_reduction as is_reduction_lem};
 ghost use Rattle.resolved.specs.ResolvedExprs.{slot_name};
 ghost use Rattle.made_growths.specs.Told.{in_row};
-ghost use Rattle.reverse_opening.specs.Chosen.{made_choice, collected_in, row_in, count_in};
+ghost use Rattle.reverse_opening.specs.Chosen.{choice_by as choice_by_lem, made_choice, names_in, row_in, count_in};
 
 use fl_ast::Name;
 use fl_base::{Items, Memory};
@@ -22,6 +22,15 @@ fn is_reduction(choice: Choice) -> bool
     }
 }
 
+fn is_atomic(choice: Choice) -> bool
+    ensures { result ≡ is_atomic_lem choice }
+{
+    match choice {
+        Choice::Atomic => true,
+        Choice::Reduction | Choice::Shared => false,
+    }
+}
+
 fn has_name(names: &[Name], name: &Name) -> bool
     ensures { result ≡ has_name_lem name.now names.now }
 {
@@ -34,9 +43,15 @@ fn is_collected(entry: &Chosen, number: usize) -> bool
     entry.loop_number as usize == number && is_reduction(entry.choice)
 }
 
+fn is_stepped(entry: &Chosen, number: usize) -> bool
+    ensures { result ≡ (nat_eq entry.now.loop_number number && is_atomic_lem entry.now.choice) }
+{
+    entry.loop_number as usize == number && is_atomic(entry.choice)
+}
+
 /// The names whose adjoints are collected in the loop with a number.
 fn collected(alloc: Global, entries: &[Chosen], number: usize) -> Result<Items<Name>, Memory>
-    ensures { IfOk result (λ names. names ≡ collected_in entries.now number) }
+    ensures { IfOk result (λ names. names ≡ names_in is_reduction_lem entries.now number) }
 {
     let mut names = Items::new(alloc);
     for entry in entries {
@@ -47,18 +62,60 @@ fn collected(alloc: Global, entries: &[Chosen], number: usize) -> Result<Items<N
     Ok(names)
 }
 
-fn row_of(alloc: Global, shapes: &[Shape], names: &[Name]) -> Result<Items<Choice>, Memory>
-    ensures { IfOk result (λ row. row ≡ row_in shapes.now names.now) }
+/// The names whose adjoints are incremented in one step there.
+fn stepped(alloc: Global, entries: &[Chosen], number: usize) -> Result<Items<Name>, Memory>
+    ensures { IfOk result (λ names. names ≡ names_in is_atomic_lem entries.now number) }
+{
+    let mut names = Items::new(alloc);
+    for entry in entries {
+        if is_stepped(entry, number) {
+            names.push(entry.name.clone(alloc)?)?;
+        }
+    }
+    Ok(names)
+}
+
+fn choice_by(collected: bool, stepped: bool) -> Choice
+    ensures { result ≡ choice_by_lem collected stepped }
+{
+    if collected {
+        Choice::Reduction
+    } else if stepped {
+        Choice::Atomic
+    } else {
+        Choice::Shared
+    }
+}
+
+fn row_of(
+    alloc: Global,
+    shapes: &[Shape],
+    collected: &[Name],
+    stepped: &[Name],
+) -> Result<Items<Choice>, Memory>
+    ensures { IfOk result (λ row. row ≡ row_in shapes.now collected.now stepped.now) }
 {
     let mut row = Items::new(alloc);
     for shape in shapes {
-        row.push(if has_name(names, &shape.name) {
-            Choice::Reduction
-        } else {
-            Choice::Atomic
-        })?;
+        let is_collected = has_name(collected, &shape.name);
+        let is_stepped = has_name(stepped, &shape.name);
+        row.push(choice_by(is_collected, is_stepped))?;
     }
     Ok(row)
+}
+
+/// The choices in the loop with a number.
+fn row_for(
+    alloc: Global,
+    shapes: &[Shape],
+    entries: &[Chosen],
+    number: usize,
+) -> Result<Items<Choice>, Memory>
+    ensures { IfOk result (λ row. row ≡ row_in shapes.now (names_in is_reduction_lem entries.now number) (names_in is_atomic_lem entries.now number)) }
+{
+    let collected = collected(alloc, entries, number)?;
+    let stepped = stepped(alloc, entries, number)?;
+    row_of(alloc, shapes, collected.as_slice(), stepped.as_slice())
 }
 
 /// More than the number of any loop for which there is a choice.
@@ -83,8 +140,7 @@ pub(crate) fn rows_of(
 {
     let mut rows = Items::new(alloc);
     for number in 0..count_of(entries) {
-        let names = collected(alloc, entries, number)?;
-        rows.push(row_of(alloc, shapes, names.as_slice())?)?;
+        rows.push(row_for(alloc, shapes, entries, number)?)?;
     }
     Ok(rows)
 }

@@ -24,8 +24,8 @@ pub struct Undoing {
     pub body: Items<UndoStep>,
 }
 
-/// The statements that undo a program's, whose forward sweep pushes the old contents of the needed names. A choice that is no
-/// Reduction is taken as Atomic.
+/// The statements that undo a program's, whose forward sweep pushes the old contents of the needed names. A name for which there is no
+/// choice in a loop is taken as Shared there: it has to be the iteration's own.
 pub fn open_reverse(
     alloc: Global,
     typed: &Typed,

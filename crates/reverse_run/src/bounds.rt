@@ -63,6 +63,7 @@ fn turns_of(first: Index, last: Index, step: Index) -> IterationCount
     ensures turns { result ≡ record { first = first; last = last; step = step; count = clipped (int_div ((last -ℤ first) +ℤ step) step) } }
     ensures first { IsIndex first }
     ensures last { IsIndex last }
+    ensures step { IsIndex step }
 {
     let count = turns_between(first.value(), last.value(), step.value());
     IterationCount {

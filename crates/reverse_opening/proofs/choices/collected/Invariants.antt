@@ -1,7 +1,8 @@
 use Rattle.std.proofs.Common.{◌≡◌, ◌++◌, drop}
-use Rattle.reverse_opening.specs.Chosen.{collected_in}
+use Rattle.adjoint_rules.specs.Scopes.{is_reduction}
+use Rattle.reverse_opening.specs.Chosen.{names_in}
 use Rattle.reverse_opening.proofs.choices.collected.Given as goal
 
 -- the names so far and those of the rest are all
 abbrev pub invariant-loop-entry : goal.invariant-loop-entry
-invariant-loop-entry l = l.names ++ collected_in (drop l.entry-index l.entries) l.number ≡ collected_in l.entries l.number
+invariant-loop-entry l = l.names ++ names_in is_reduction (drop l.entry-index l.entries) l.number ≡ names_in is_reduction l.entries l.number

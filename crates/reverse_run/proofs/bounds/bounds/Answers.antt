@@ -1,5 +1,5 @@
 use Rattle.std.proofs.Common.{refl}
-use Rattle.forward_sweep.proofs.Bounds.{turns_fit, fit_by}
+use Rattle.forward_sweep.proofs.Bounds.{turns_fit}
 use Rattle.reverse_run.proofs.Bounding.{bounds_given}
 use Rattle.reverse_run.proofs.bounds.bounds.Goals as goal
 
@@ -10,5 +10,4 @@ returns-clause-gives g c =
 
 pub returns-clause-fits : goal.returns-clause-fits
 returns-clause-fits g c =
-    fit_by c.turns_of.result c.narrow-first.result c.narrow-last.result c.narrow-step.result _ c.turns_of.ensures.turns
-    (turns_fit c.narrow-first.result c.narrow-last.result c.narrow-step.result _ c.turns_of.ensures.first c.turns_of.ensures.last refl)
+    turns_fit c.turns_of.result c.narrow-first.result c.narrow-last.result c.narrow-step.result _ c.turns_of.ensures.turns c.turns_of.ensures.first c.turns_of.ensures.last c.turns_of.ensures.step refl
