@@ -35,7 +35,8 @@ y = codes "y"
 abbrev around : Directive → Statements
 around d =
     only (loop 3 1 None i (one 1) (name n) None
-    (statement (set 4 (into y (name i)) (at x (name i) times at x (name i))) (parallel d j (one 1) (name n) (only (set 6 (into x (name j)) (at x (name j) plus at y (name j)))))))
+    (statement (set 4 (into y (name i)) (at x (name i) times at x (name i)))
+    (parallel d j (one 1) (name n) (only (set 6 (into x (name j)) (at x (name j) plus at y (name j)))))))
 
 abbrev private_i : Directive
 private_i = record clauses { privates = i ∷ [] }

@@ -58,13 +58,15 @@ zero_pairing (w ∷ ws) [] h = refl
 zero_pairing (w ∷ ws) (c ∷ s) h =
     zero_sum (ring_mul w (tangent_of c)) (pairing_of ws s) (zero_product w (tangent_of c) (h 0)) (zero_pairing ws s (λ q. later q (h (suc q))))
   where
-    later : (q : ℕ) → (slice_index (w ∷ ws) (suc q) ≡ 0) ⊎ Same (tangent_of (content (c ∷ s) (suc q))) 0 → (slice_index ws q ≡ 0) ⊎ Same (tangent_of (content s q)) 0
+    later : (q : ℕ) → (slice_index (w ∷ ws) (suc q) ≡ 0) ⊎ Same (tangent_of (content (c ∷ s) (suc q))) 0
+        → (slice_index ws q ≡ 0) ⊎ Same (tangent_of (content s q)) 0
     later q (inl e) = inl e
     later q (inr e) = inr (subst (λ (o : Option Value). Same (tangent_of o) 0) (content_later c s q) e)
 
 -- ---- what flows on from a name, and back to it
 
-useful_back : (p : Program) (of : List (List ℕ)) (x y : List ℕ) → IsReachedName p.decls (x ∷ []) (program_flows p) y → is_useful p of y ≡ true → is_useful p of x ≡ true
+useful_back : (p : Program) (of : List (List ℕ)) (x y : List ℕ) → IsReachedName p.decls (x ∷ []) (program_flows p) y
+    → is_useful p of y ≡ true → is_useful p of x ≡ true
 useful_back p of x y (root _ h) u = only (filter_among (is_declared p.decls) (x ∷ []) y h)
   where
     only : IsAmong (x ∷ []) y → is_useful p of x ≡ true
@@ -73,13 +75,15 @@ useful_back p of x y (root _ h) u = only (filter_among (is_declared p.decls) (x 
 useful_back p of x y (onward z _ r l) u =
     let e : Edge (List ℕ) = record { tail = z; head = y } in
     let k = and_parts (is_declared p.decls z) (is_declared p.decls y) (filter_meets (are_both_declared p.decls) (program_flows p) e l) in
-    useful_back p of x z r (goes_on p.decls of (map turned (program_flows p)) (turned e) (in_map turned (program_flows p) e (filter_among (are_both_declared p.decls) (program_flows p) e l)) k.1 k.0 u)
+    useful_back p of x z r (goes_on p.decls of (map turned (program_flows p)) (turned e)
+    (in_map turned (program_flows p) e (filter_among (are_both_declared p.decls) (program_flows p) e l)) k.1 k.0 u)
 
 -- ---- asked by that name alone
 
 all_found : (test : List ℕ → Bool) (xs : List (List ℕ)) → ((x : List ℕ) → IsAmong xs x → test x ≡ false) → find test xs ≡ None
 all_found test [] h = refl
-all_found test (y ∷ ys) h = at_test (λ b. test y ≡ b → cond b (Some y) (find test ys) ≡ None) (test y) (λ e g. never (test y) g (h y (inl refl))) (λ e g. all_found test ys (λ x i. h x (inr i))) refl
+all_found test (y ∷ ys) h = at_test (λ b. test y ≡ b → cond b (Some y) (find test ys) ≡ None) (test y)
+    (λ e g. never (test y) g (h y (inl refl))) (λ e g. all_found test ys (λ x i. h x (inr i))) refl
 
 alone : (p : Program) (of wrt : List (List ℕ)) (x : List ℕ) → IsAccepted p of wrt → has_name x wrt ≡ true → IsAccepted p of (x ∷ [])
 alone p of wrt x a h = record {
@@ -129,7 +133,8 @@ inactive_zero p of wrt values words seed j a kept small dead asked inactive = sa
     room = all_laid (shapes_of p values) (map (λ (d : Decl). scalar d.name) p.decls)
 
     moves : u.moved x ≡ true
-    moves = begins p.decls (x ∷ []) (program_flows p) x (inl refl) (known_argument p x (all_fit p of wrt a.fit x (in_right of wrt x (has_in x wrt asked))))
+    moves = begins p.decls (x ∷ []) (program_flows p) x (inl refl)
+        (known_argument p x (all_fit p of wrt a.fit x (in_right of wrt x (has_in x wrt asked))))
 
     fit : Fit w u sj
     fit = unit_fit w u s j fits room moves
@@ -146,8 +151,10 @@ inactive_zero p of wrt values words seed j a kept small dead asked inactive = sa
     by_out (Err t) e = refl
     by_out (Ok s3) e =
         let k = kept_all (stmt_trees p.body) w u sj s3 fit sound e in
-        zero_pairing seed s3 (λ q. by_cases (has_name (name_at keys q) of) (λ o. inr (k.fit.still q (still (name_at keys q) o))) (λ o. inl (dead q o)))
+        zero_pairing seed s3 (λ q. by_cases (has_name (name_at keys q) of) (λ o. inr (k.fit.still q (still (name_at keys q) o)))
+        (λ o. inl (dead q o)))
 
     same-adjoint : adjoint_of (program_tree p) (shapes_of p values) words seed j ≡ pairing_after seed (run_all (stmt_trees p.body) w.site sj).out
     same-adjoint =
-        ap (pairing_after seed) (runs_everywhere (entry_site (program_tree p) (shapes_of p values) no_pushes) w.site refl refl (λ y. refl) (stmt_trees p.body) (λ e. refl) sj)
+        ap (pairing_after seed) (runs_everywhere (entry_site (program_tree p) (shapes_of p values) no_pushes) w.site refl refl (λ y. refl)
+        (stmt_trees p.body) (λ e. refl) sj)

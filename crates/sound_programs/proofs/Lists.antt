@@ -75,7 +75,8 @@ pub filter_meets : {X : Type 0} (test : X → Bool) (xs : List X) (x : X) → Is
 filter_meets test [] x h = absurd h
 filter_meets test (z ∷ xs) x h = by_test (test z) refl h (λ k. filter_meets test xs x k)
   where
-    by_test : (b : Bool) → test z ≡ b → IsAmong (if b then z ∷ filter test xs else filter test xs) x → (IsAmong (filter test xs) x → test x ≡ true) → test x ≡ true
+    by_test : (b : Bool) → test z ≡ b → IsAmong (if b then z ∷ filter test xs else filter test xs) x
+        → (IsAmong (filter test xs) x → test x ≡ true) → test x ≡ true
     by_test true e (inl k) f = ap test (sym k) ∙ e
     by_test true e (inr k) f = f k
     by_test false e k f = f k

@@ -17,7 +17,8 @@ either_among (z ∷ xs) ys x (inr h) = later (either_among xs ys x h)
     later (inl k) = inl (inr k)
     later (inr k) = inr k
 
-counts_both : (n : ℕ) (xs ys : List ℕ) → counts_up_from n (xs ++ ys) ≡ true → (counts_up_from n xs ≡ true) × (counts_up_from (n + length xs) ys ≡ true)
+counts_both : (n : ℕ) (xs ys : List ℕ) → counts_up_from n (xs ++ ys) ≡ true
+    → (counts_up_from n xs ≡ true) × (counts_up_from (n + length xs) ys ≡ true)
 counts_both n [] ys h = (refl, subst (λ m. counts_up_from m ys ≡ true) (omega arith) h)
 counts_both n (x ∷ xs) ys h =
     let q = and_parts (x == n) (counts_up_from (suc n) (xs ++ ys)) h in
@@ -87,37 +88,48 @@ first_numbered n m l ls e b h = record { least = least; below = below; one = one
 wider : (n o m : ℕ) (ls : List ParallelLoop) → n ≤ o → Numbered o m ls → Numbered n m ls
 wider n o m ls a h = record { least = λ l i. (let c : o ≤ l.number = h.least l i in omega arith); below = h.below; one = h.one }
 
-two_parts : (n : ℕ) (xs ys : List ℕ) (ls ks : List ParallelLoop) → Numbered n (n + length xs) ls → Numbered (n + length xs) ((n + length xs) + length ys) ks → Numbered n (n + length (xs ++ ys)) (ls ++ ks)
+two_parts : (n : ℕ) (xs ys : List ℕ) (ls ks : List ParallelLoop) → Numbered n (n + length xs) ls
+    → Numbered (n + length xs) ((n + length xs) + length ys) ks → Numbered n (n + length (xs ++ ys)) (ls ++ ks)
 two_parts n xs ys ls ks h k =
-    subst (λ m. Numbered n m (ls ++ ks)) (omega (arith, length-append xs ys)) (both_numbered n (n + length xs) ((n + length xs) + length ys) ls ks (omega arith) (omega arith) h k)
+    subst (λ m. Numbered n m (ls ++ ks)) (omega (arith, length-append xs ys))
+    (both_numbered n (n + length xs) ((n + length xs) + length ys) ls ks (omega arith) (omega arith) h k)
 
 mutual
-  numbered_one : (s : Statement) (outer : List (List ℕ)) (n : ℕ) → counts_up_from n (loop_numbers s) ≡ true → Numbered n (n + length (loop_numbers s)) (loops_of outer s)
+  numbered_one : (s : Statement) (outer : List (List ℕ)) (n : ℕ) → counts_up_from n (loop_numbers s) ≡ true
+      → Numbered n (n + length (loop_numbers s)) (loops_of outer s)
   numbered_one (assignment line atomic p e) outer n h = none_numbered n _
   numbered_one (branch line arms other) outer n h =
       let q = counts_both n (loop_numbers_of_arms arms) (loop_numbers_of_all other) h in
-      two_parts n (loop_numbers_of_arms arms) (loop_numbers_of_all other) (loops_of_arms outer arms) (loops_of_all outer other) (numbered_arms arms outer n q.0) (numbered_all other outer (n + length (loop_numbers_of_arms arms)) q.1)
+      two_parts n (loop_numbers_of_arms arms) (loop_numbers_of_all other) (loops_of_arms outer arms) (loops_of_all outer other)
+      (numbered_arms arms outer n q.0) (numbered_all other outer (n + length (loop_numbers_of_arms arms)) q.1)
   numbered_one (loop line number None var first last step body) outer n h =
       let q = and_parts (number == n) (counts_up_from (suc n) (loop_numbers_of_all body)) h in
-      subst (λ m. Numbered n m (loops_of_all (var ∷ outer) body)) (omega arith) (wider n (suc n) (suc n + length (loop_numbers_of_all body)) (loops_of_all (var ∷ outer) body) (omega arith) (numbered_all body (var ∷ outer) (suc n) q.1))
+      subst (λ m. Numbered n m (loops_of_all (var ∷ outer) body)) (omega arith)
+      (wider n (suc n) (suc n + length (loop_numbers_of_all body)) (loops_of_all (var ∷ outer) body) (omega arith)
+      (numbered_all body (var ∷ outer) (suc n) q.1))
   numbered_one (loop line number (Some d) var first last step body) outer n h =
       let q = and_parts (number == n) (counts_up_from (suc n) (loop_numbers_of_all body)) h in
       let l : ParallelLoop = record { line = line; number = number; outer = outer; directive = d; var = var; body = body } in
       first_numbered n (n + suc (length (loop_numbers_of_all body))) l (loops_of_all (var ∷ outer) body) (eqb-true number n q.0) (omega arith)
       (subst (λ m. Numbered (suc n) m (loops_of_all (var ∷ outer) body)) (omega arith) (numbered_all body (var ∷ outer) (suc n) q.1))
 
-  pub numbered_all : (ss : Statements) (outer : List (List ℕ)) (n : ℕ) → counts_up_from n (loop_numbers_of_all ss) ≡ true → Numbered n (n + length (loop_numbers_of_all ss)) (loops_of_all outer ss)
+  pub numbered_all : (ss : Statements) (outer : List (List ℕ)) (n : ℕ) → counts_up_from n (loop_numbers_of_all ss) ≡ true
+      → Numbered n (n + length (loop_numbers_of_all ss)) (loops_of_all outer ss)
   numbered_all no_statements outer n h = none_numbered n _
   numbered_all (statement s ss) outer n h =
       let q = counts_both n (loop_numbers s) (loop_numbers_of_all ss) h in
-      two_parts n (loop_numbers s) (loop_numbers_of_all ss) (loops_of outer s) (loops_of_all outer ss) (numbered_one s outer n q.0) (numbered_all ss outer (n + length (loop_numbers s)) q.1)
+      two_parts n (loop_numbers s) (loop_numbers_of_all ss) (loops_of outer s) (loops_of_all outer ss) (numbered_one s outer n q.0)
+      (numbered_all ss outer (n + length (loop_numbers s)) q.1)
 
-  numbered_arms : (arms : Arms) (outer : List (List ℕ)) (n : ℕ) → counts_up_from n (loop_numbers_of_arms arms) ≡ true → Numbered n (n + length (loop_numbers_of_arms arms)) (loops_of_arms outer arms)
+  numbered_arms : (arms : Arms) (outer : List (List ℕ)) (n : ℕ) → counts_up_from n (loop_numbers_of_arms arms) ≡ true
+      → Numbered n (n + length (loop_numbers_of_arms arms)) (loops_of_arms outer arms)
   numbered_arms no_arms outer n h = none_numbered n _
   numbered_arms (arm test body rest) outer n h =
       let q = counts_both n (loop_numbers_of_all body) (loop_numbers_of_arms rest) h in
-      two_parts n (loop_numbers_of_all body) (loop_numbers_of_arms rest) (loops_of_all outer body) (loops_of_arms outer rest) (numbered_all body outer n q.0) (numbered_arms rest outer (n + length (loop_numbers_of_all body)) q.1)
+      two_parts n (loop_numbers_of_all body) (loop_numbers_of_arms rest) (loops_of_all outer body) (loops_of_arms outer rest)
+      (numbered_all body outer n q.0) (numbered_arms rest outer (n + length (loop_numbers_of_all body)) q.1)
 
 -- two loops with one number are one
-pub one_loop : (ss : Statements) (l k : ParallelLoop) → counts_up_from 1 (loop_numbers_of_all ss) ≡ true → IsAmong (loops_of_all [] ss) l → IsAmong (loops_of_all [] ss) k → l.number ≡ k.number → l ≡ k
+pub one_loop : (ss : Statements) (l k : ParallelLoop) → counts_up_from 1 (loop_numbers_of_all ss) ≡ true → IsAmong (loops_of_all [] ss) l
+    → IsAmong (loops_of_all [] ss) k → l.number ≡ k.number → l ≡ k
 one_loop ss l k h = (numbered_all ss [] 1 h).one l k

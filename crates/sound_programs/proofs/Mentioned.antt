@@ -39,7 +39,8 @@ pub record IsVariable (p : Program) (vars : List (List ℕ)) (x : List ℕ) : Ty
   pub local : is_local_index_scalar p x ≡ true
   pub new : has_name x vars ≡ false
 
-use_clean : (p : Program) (s : Surroundings) (ends : List Ending) (x : List ℕ) (n : ℕ) → slice_get (faults_at p (a_use s ends x n)) 0 ≡ None → IsUsed p s.vars s.parallel s.subscript_of x
+use_clean : (p : Program) (s : Surroundings) (ends : List Ending) (x : List ℕ) (n : ℕ) → slice_get (faults_at p (a_use s ends x n)) 0 ≡ None
+    → IsUsed p s.vars s.parallel s.subscript_of x
 use_clean p s ends x n h =
     let a = holds (not (is_declared p.decls x)) _ _ h in
     let b = holds (not (has_declared_rank p.decls x n)) _ _ a.1 in
@@ -51,7 +52,8 @@ use_clean p s ends x n h =
     let i = holds (is_out_of_loop p s x) _ _ g.1 in
     record { usable = record { known = no_not _ a.0; scope = g.0; own = i.0 }; other = f.0 }
 
-pub target_clean : (p : Program) (s : Surroundings) (x : List ℕ) (n : ℕ) → slice_get (faults_at p (a_target s x n)) 0 ≡ None → IsTarget p s.vars s.parallel x
+pub target_clean : (p : Program) (s : Surroundings) (x : List ℕ) (n : ℕ) → slice_get (faults_at p (a_target s x n)) 0 ≡ None
+    → IsTarget p s.vars s.parallel x
 target_clean p s x n h =
     let a = holds (not (is_declared p.decls x)) _ _ h in
     let b = holds (not (has_declared_rank p.decls x n)) _ _ a.1 in
@@ -77,7 +79,8 @@ used_both p s [] ys f g x h = g x h
 used_both p s (z ∷ xs) ys f g x (inl e) = f x (inl e)
 used_both p s (z ∷ xs) ys f g x (inr h) = used_both p s xs ys (λ y k. f y (inr k)) g x h
 
-used_first : (p : Program) (s : Surroundings) (y : List ℕ) (xs : List (List ℕ)) → IsUsed p s.vars s.parallel s.subscript_of y → AreUsed p s xs → AreUsed p s (y ∷ xs)
+used_first : (p : Program) (s : Surroundings) (y : List ℕ) (xs : List (List ℕ)) → IsUsed p s.vars s.parallel s.subscript_of y
+    → AreUsed p s xs → AreUsed p s (y ∷ xs)
 used_first p s y xs h f x (inl e) = subst (IsUsed p s.vars s.parallel s.subscript_of) e h
 used_first p s y xs h f x (inr k) = f x k
 
@@ -85,8 +88,10 @@ mutual
   pub used_in : (p : Program) (s : Surroundings) (ends : List Ending) (e : Expression) → Clean p (m.in_expression s ends e) → AreUsed p s (names_in e)
   used_in p s ends (literal n k) h = λ x g. absurd g
   used_in p s ends (get y ss) h =
-      let q = at_first p (a_use s (m.at_last ss (a_value (get y ss) ∷ ends)) y (expression_count ss)) (m.in_subscripts s (a_value (get y ss) ∷ ends) ss) h in
-      used_first p s y (names_in_all ss) (use_clean p s (m.at_last ss (a_value (get y ss) ∷ ends)) y (expression_count ss) q.0) (used_in_subscripts p s (a_value (get y ss) ∷ ends) ss q.1)
+      let q = at_first p (a_use s (m.at_last ss (a_value (get y ss) ∷ ends)) y (expression_count ss))
+      (m.in_subscripts s (a_value (get y ss) ∷ ends) ss) h in
+      used_first p s y (names_in_all ss) (use_clean p s (m.at_last ss (a_value (get y ss) ∷ ends)) y (expression_count ss) q.0)
+      (used_in_subscripts p s (a_value (get y ss) ∷ ends) ss q.1)
   used_in p s ends (minus a) h = used_in p s (a_value (minus a) ∷ ends) a h
   used_in p s ends (binary o a b) h =
       let q = apart p (m.in_expression s [] a) (m.in_expression s (a_value (binary o a b) ∷ ends) b) h in
@@ -94,13 +99,15 @@ mutual
   used_in p s ends (power a n) h = used_in p s [] a (apart p (m.in_expression s [] a) (m.an_exponent s (a_value (power a n) ∷ ends) ∷ []) h).0
   used_in p s ends (call f args) h = used_in_arguments p s (a_value (call f args) ∷ ends) args h
 
-  pub used_in_subscripts : (p : Program) (s : Surroundings) (ends : List Ending) (es : Expressions) → Clean p (m.in_subscripts s ends es) → AreUsed p s (names_in_all es)
+  pub used_in_subscripts : (p : Program) (s : Surroundings) (ends : List Ending) (es : Expressions) → Clean p (m.in_subscripts s ends es)
+      → AreUsed p s (names_in_all es)
   used_in_subscripts p s ends no_expressions h = λ x g. absurd g
   used_in_subscripts p s ends (expression a es) h =
       let q = apart p (m.in_expression s (an_index a ∷ m.at_last es ends) a) (m.in_subscripts s ends es) h in
       used_both p s (names_in a) (names_in_all es) (used_in p s (an_index a ∷ m.at_last es ends) a q.0) (used_in_subscripts p s ends es q.1)
 
-  used_in_arguments : (p : Program) (s : Surroundings) (ends : List Ending) (es : Expressions) → Clean p (m.in_arguments s ends es) → AreUsed p s (names_in_all es)
+  used_in_arguments : (p : Program) (s : Surroundings) (ends : List Ending) (es : Expressions) → Clean p (m.in_arguments s ends es)
+      → AreUsed p s (names_in_all es)
   used_in_arguments p s ends no_expressions h = λ x g. absurd g
   used_in_arguments p s ends (expression a es) h =
       let q = apart p (m.in_expression s (m.at_last es ends) a) (m.in_arguments s ends es) h in
@@ -113,10 +120,14 @@ pub record IsCleanAssignment (p : Program) (vars : List (List ℕ)) (parallel : 
   pub subscripts : (x : List ℕ) → IsAmong (names_in_all t.subscripts) x → IsUsed p vars parallel (Some t.name) x
   pub value : (x : List ℕ) → IsAmong (names_in e) x → IsUsed p vars parallel None x
 
-pub assignment_clean : (p : Program) (s : Surroundings) (line : ℕ) (atomic : Bool) (t : Designator) (e : Expression) → Clean p (m.in_assignment s line atomic t e) → IsCleanAssignment p s.vars s.parallel t e
+pub assignment_clean : (p : Program) (s : Surroundings) (line : ℕ) (atomic : Bool) (t : Designator) (e : Expression)
+    → Clean p (m.in_assignment s line atomic t e) → IsCleanAssignment p s.vars s.parallel t e
 assignment_clean p s line atomic t e h =
-    let q = at_first p (a_target (m.at_assignment s line t e) t.name (expression_count t.subscripts)) (m.in_subscripts (m.at_subscripts s line t e) [] t.subscripts ++ m.in_expression (m.at_assignment s line t e) (an_assignment atomic t e ∷ []) e) h in
-    let r = apart p (m.in_subscripts (m.at_subscripts s line t e) [] t.subscripts) (m.in_expression (m.at_assignment s line t e) (an_assignment atomic t e ∷ []) e) q.1 in
+    let q = at_first p (a_target (m.at_assignment s line t e) t.name (expression_count t.subscripts))
+    (m.in_subscripts (m.at_subscripts s line t e) [] t.subscripts ++ m.in_expression (m.at_assignment s line t e)
+    (an_assignment atomic t e ∷ []) e) h in
+    let r = apart p (m.in_subscripts (m.at_subscripts s line t e) [] t.subscripts)
+    (m.in_expression (m.at_assignment s line t e) (an_assignment atomic t e ∷ []) e) q.1 in
     record {
       target = target_clean p (m.at_assignment s line t e) t.name (expression_count t.subscripts) q.0;
       subscripts = used_in_subscripts p (m.at_subscripts s line t e) [] t.subscripts r.0;

@@ -22,25 +22,38 @@ mutual
   needs_of u (literal n k) f = tt
   needs_of u (get x s) f = (f x (inl refl), needs_all u s (λ y h. f y (inr h)))
   needs_of u (minus a) f = needs_of u a f
-  needs_of u (binary o a b) f = (needs_of u a (λ x h. f x (in_left (names_in a) (names_in b) x h)), needs_of u b (λ x h. f x (in_right (names_in a) (names_in b) x h)))
+  needs_of u (binary o a b) f =
+      (needs_of u a (λ x h. f x (in_left (names_in a) (names_in b) x h)), needs_of u b (λ x h. f x (in_right (names_in a) (names_in b) x h)))
   needs_of u (power a n) f = needs_of u a f
   needs_of u (call g s) f = needs_all u s f
 
   pub needs_all : (u : Use) (s : Expressions) → ((x : List ℕ) → IsAmong (names_in_all s) x → u.needed x ≡ true) → NeedsAll u s
   needs_all u no_expressions f = tt
-  needs_all u (expression a s) f = (needs_of u a (λ x h. f x (in_left (names_in a) (names_in_all s) x h)), needs_all u s (λ x h. f x (in_right (names_in a) (names_in_all s) x h)))
+  needs_all u (expression a s) f =
+      (needs_of u a (λ x h. f x (in_left (names_in a) (names_in_all s) x h)), needs_all u s (λ x h. f x (in_right (names_in a) (names_in_all s) x h)))
 
 pub needs_condition : (u : Use) (t : Condition) → ((x : List ℕ) → IsAmong (names_in_condition t) x → u.needed x ≡ true) → NeedsCondition u t
-needs_condition u (relation o a b) f = (needs_of u a (λ x h. f x (in_left (names_in a) (names_in b) x h)), needs_of u b (λ x h. f x (in_right (names_in a) (names_in b) x h)))
+needs_condition u (relation o a b) f =
+    (needs_of u a (λ x h. f x (in_left (names_in a) (names_in b) x h)), needs_of u b (λ x h. f x (in_right (names_in a) (names_in b) x h)))
 needs_condition u (negation a) f = needs_condition u a f
-needs_condition u (conjunction a b) f =
-    (needs_condition u a (λ x h. f x (in_left (names_in_condition a) (names_in_condition b) x h)), needs_condition u b (λ x h. f x (in_right (names_in_condition a) (names_in_condition b) x h)))
-needs_condition u (disjunction a b) f =
-    (needs_condition u a (λ x h. f x (in_left (names_in_condition a) (names_in_condition b) x h)), needs_condition u b (λ x h. f x (in_right (names_in_condition a) (names_in_condition b) x h)))
+needs_condition u (conjunction a b) f = (
+  needs_condition u a (λ x h. f x (in_left (names_in_condition a) (names_in_condition b) x h)),
+  needs_condition u b
+      (λ x h. f x (in_right (names_in_condition a) (names_in_condition b) x h)),
+)
+needs_condition u (disjunction a b) f = (
+  needs_condition u a (λ x h. f x (in_left (names_in_condition a) (names_in_condition b) x h)),
+  needs_condition u b
+      (λ x h. f x (in_right (names_in_condition a) (names_in_condition b) x h)),
+)
 
 pub needs_terms : (u : Use) (rs : List Signed) → ((x : List ℕ) → IsAmong (names_in_terms rs) x → u.needed x ≡ true) → NeedsTerms u rs
 needs_terms u [] f = tt
-needs_terms u (r ∷ rs) f = (needs_of u r.1 (λ x h. f x (in_left (names_in r.1) (names_in_terms rs) x h)), needs_terms u rs (λ x h. f x (in_right (names_in r.1) (names_in_terms rs) x h)))
+needs_terms u (r ∷ rs) f = (
+  needs_of u r.1 (λ x h. f x (in_left (names_in r.1) (names_in_terms rs) x h)),
+  needs_terms u rs
+      (λ x h. f x (in_right (names_in r.1) (names_in_terms rs) x h)),
+)
 
 -- ---- occurrences of a name
 
@@ -49,14 +62,16 @@ mutual
   absent y (literal n k) f = refl
   absent y (get x s) f = or_from (bytes_eq x y) (occurs_in_any y s) (f x (inl refl)) (all_absent y s (λ z h. f z (inr h)))
   absent y (minus a) f = absent y a f
-  absent y (binary o a b) f = or_from (occurs y a) (occurs y b) (absent y a (λ x h. f x (in_left (names_in a) (names_in b) x h))) (absent y b (λ x h. f x (in_right (names_in a) (names_in b) x h)))
+  absent y (binary o a b) f = or_from (occurs y a) (occurs y b) (absent y a (λ x h. f x (in_left (names_in a) (names_in b) x h)))
+      (absent y b (λ x h. f x (in_right (names_in a) (names_in b) x h)))
   absent y (power a n) f = absent y a f
   absent y (call g s) f = all_absent y s f
 
   pub all_absent : (y : List ℕ) (s : Expressions) → ((x : List ℕ) → IsAmong (names_in_all s) x → bytes_eq x y ≡ false) → occurs_in_any y s ≡ false
   all_absent y no_expressions f = refl
   all_absent y (expression a s) f =
-      or_from (occurs y a) (occurs_in_any y s) (absent y a (λ x h. f x (in_left (names_in a) (names_in_all s) x h))) (all_absent y s (λ x h. f x (in_right (names_in a) (names_in_all s) x h)))
+      or_from (occurs y a) (occurs_in_any y s) (absent y a (λ x h. f x (in_left (names_in a) (names_in_all s) x h)))
+      (all_absent y s (λ x h. f x (in_right (names_in a) (names_in_all s) x h)))
 
 -- ---- names without tangents
 
@@ -72,18 +87,23 @@ mutual
       by_kind false r g = still x r
   quiet_of on ring u y (minus a) still f = quiet_of on ring u y a still f
   quiet_of on ring u y (binary o a b) still f = (
-    quiet_of on ring u y a still (λ x h k. f x (in_left (names_in a) (names_in b) x h) (in_left (flows_to ring y a) (flows_to ring y b) (edge_to y x) k)),
-    quiet_of on ring u y b still (λ x h k. f x (in_right (names_in a) (names_in b) x h) (in_right (flows_to ring y a) (flows_to ring y b) (edge_to y x) k)),
+    quiet_of on ring u y a still (λ x h k. f x (in_left (names_in a) (names_in b) x h)
+        (in_left (flows_to ring y a) (flows_to ring y b) (edge_to y x) k)),
+    quiet_of on ring u y b still (λ x h k. f x (in_right (names_in a) (names_in b) x h)
+        (in_right (flows_to ring y a) (flows_to ring y b) (edge_to y x) k)),
   )
   quiet_of on ring u y (power a n) still f = quiet_of on ring u y a still f
   quiet_of on ring u y (call g s) still f = all_quiet on ring u y s still f
 
   pub all_quiet : (on ring : List ℕ → Bool) (u : Use) (y : List ℕ) (s : Expressions) → ((x : List ℕ) → ring x ≡ false → u.moved x ≡ false)
-      → ((x : List ℕ) → IsAmong (names_in_all s) x → IsAmong (all_flow_to ring y s) (edge_to y x) → on x ≡ false → u.moved x ≡ false) → QuietAll on u s
+      → ((x : List ℕ) → IsAmong (names_in_all s) x → IsAmong (all_flow_to ring y s) (edge_to y x) → on x ≡ false → u.moved x ≡ false)
+      → QuietAll on u s
   all_quiet on ring u y no_expressions still f = tt
   all_quiet on ring u y (expression a s) still f = (
-    quiet_of on ring u y a still (λ x h k. f x (in_left (names_in a) (names_in_all s) x h) (in_left (flows_to ring y a) (all_flow_to ring y s) (edge_to y x) k)),
-    all_quiet on ring u y s still (λ x h k. f x (in_right (names_in a) (names_in_all s) x h) (in_right (flows_to ring y a) (all_flow_to ring y s) (edge_to y x) k)),
+    quiet_of on ring u y a still (λ x h k. f x (in_left (names_in a) (names_in_all s) x h)
+        (in_left (flows_to ring y a) (all_flow_to ring y s) (edge_to y x) k)),
+    all_quiet on ring u y s still (λ x h k. f x (in_right (names_in a) (names_in_all s) x h)
+        (in_right (flows_to ring y a) (all_flow_to ring y s) (edge_to y x) k)),
   )
 
 -- ---- terms of increments
@@ -108,7 +128,8 @@ longer_terms : (P : Expression → Type 0) (o : Option (List Signed)) (r : Signe
 longer_terms P None r h k = tt
 longer_terms P (Some rs) r h k = with_term P rs r h k
 
-begun_terms : (P : Expression → Type 0) (b less : Bool) (o : Option (List Signed)) (e : Expression) → OfTerms P o → P e → OfTerms P (if b then Some ((less, e) ∷ []) else longer o (less, e))
+begun_terms : (P : Expression → Type 0) (b less : Bool) (o : Option (List Signed)) (e : Expression) → OfTerms P o → P e
+    → OfTerms P (if b then Some ((less, e) ∷ []) else longer o (less, e))
 begun_terms P true less o e h k = (k, tt)
 begun_terms P false less o e h k = longer_terms P o (less, e) h k
 
@@ -116,8 +137,10 @@ chain_terms : (P : Expression → Type 0) → Parts P → (t e : Expression) →
 chain_terms P parts t (literal n k) h = tt
 chain_terms P parts t (get x s) h = tt
 chain_terms P parts t (minus a) h = tt
-chain_terms P parts t (binary op.Add a b) h = let r = parts op.Add a b h in begun_terms P (same_expression t a) false (chain t a) b (chain_terms P parts t a r.0) r.1
-chain_terms P parts t (binary op.Sub a b) h = let r = parts op.Sub a b h in begun_terms P (same_expression t a) true (chain t a) b (chain_terms P parts t a r.0) r.1
+chain_terms P parts t (binary op.Add a b) h = let r =
+    parts op.Add a b h in begun_terms P (same_expression t a) false (chain t a) b (chain_terms P parts t a r.0) r.1
+chain_terms P parts t (binary op.Sub a b) h = let r =
+    parts op.Sub a b h in begun_terms P (same_expression t a) true (chain t a) b (chain_terms P parts t a r.0) r.1
 chain_terms P parts t (binary op.Mul a b) h = tt
 chain_terms P parts t (binary op.Div a b) h = tt
 chain_terms P parts t (power a n) h = tt
@@ -169,13 +192,15 @@ abbrev pub OfIncrement : (Expression → Type 0) → (List ℕ → Bool) → Lis
 OfIncrement P ring x None = Unit {0}
 OfIncrement P ring x (Some rs) = Increments P ring x rs
 
-pub increment_parts : (P : Expression → Type 0) → Parts P → (ring : List ℕ → Bool) (p : Designator) (e : Expression) → P e → OfIncrement P ring p.name (increment_terms ring p e)
+pub increment_parts : (P : Expression → Type 0) → Parts P → (ring : List ℕ → Bool) (p : Designator) (e : Expression) → P e
+    → OfIncrement P ring p.name (increment_terms ring p e)
 increment_parts P parts ring p e h = by_kind (ring p.name) refl
   where
     free : OfFree P p.name (rest_terms p e)
     free =
         either_free P p.name (if_free p.name (chain (target_of p) e)) (if_free p.name (first_of_sum (target_of p) e))
-        (free_terms P p.name (chain (target_of p) e) (chain_terms P parts (target_of p) e h)) (free_terms P p.name (first_of_sum (target_of p) e) (sum_terms P parts (target_of p) e h))
+        (free_terms P p.name (chain (target_of p) e) (chain_terms P parts (target_of p) e h))
+        (free_terms P p.name (first_of_sum (target_of p) e) (sum_terms P parts (target_of p) e h))
 
     with_kind : (o : Option (List Signed)) → ring p.name ≡ true → OfFree P p.name o → OfIncrement P ring p.name o
     with_kind None r k = tt

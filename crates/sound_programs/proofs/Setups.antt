@@ -96,11 +96,13 @@ pub record Facts (t : Setup) : Type 0 where
 -- ---- a part of its body
 
 -- a part that has these names as loops' own and as variables, that assigns these, and that has these reads and edges
-pub record Part (t : Setup) (choice : List ℕ → Choice) (sc va assigned : List ℕ → Bool) (reads : List (List ℕ)) (restores flow : List (Edge (List ℕ))) : Type 0 where
+pub record Part (t : Setup) (choice : List ℕ → Choice) (sc va assigned : List ℕ → Bool) (reads : List (List ℕ))
+    (restores flow : List (Edge (List ℕ))) : Type 0 where
   pub scoped : (x : List ℕ) → sc x ≡ true → is_scoped t x ≡ true
   pub varied : (x : List ℕ) → va x ≡ true → is_varying t.program x ≡ true
   pub read : (x : List ℕ) → IsAmong reads x → is_declared (decls_in t) x ≡ true → t.needed x ≡ true
-  pub restored : (e : Edge (List ℕ)) → IsAmong restores e → is_declared (decls_in t) e.tail ≡ true → is_declared (decls_in t) e.head ≡ true → t.needed e.tail ≡ true → t.needed e.head ≡ true
+  pub restored : (e : Edge (List ℕ)) → IsAmong restores e → is_declared (decls_in t) e.tail ≡ true → is_declared (decls_in t) e.head ≡ true
+      → t.needed e.tail ≡ true → t.needed e.head ≡ true
   pub flown : (e : Edge (List ℕ)) → IsAmong flow e → is_declared (decls_in t) e.tail ≡ true → is_declared (decls_in t) e.head ≡ true
       → (t.moved e.tail ≡ true → t.moved e.head ≡ true) × (t.useful e.head ≡ true → t.useful e.tail ≡ true)
   -- additions to the adjoint of what is assigned aren't collected
@@ -129,41 +131,58 @@ right_part t choice sa sb va vb aa ab ra rb ea eb fa fb h = record {
 }
 
 abbrev pub PartOne : (t : Setup) → (List ℕ → Choice) → Statement → Type 0
-PartOne t choice s = Part t choice (λ x. scopes x s) (λ x. varies x s) (λ x. assigns x s) (read_by (kinds_in t) s) (restorings (kinds_in t) s) (flows (is_ring_name (decls_in t)) s)
+PartOne t choice s = Part t choice (λ x. scopes x s) (λ x. varies x s) (λ x. assigns x s) (read_by (kinds_in t) s)
+    (restorings (kinds_in t) s) (flows (is_ring_name (decls_in t)) s)
 
 abbrev pub PartAll : (t : Setup) → (List ℕ → Choice) → Statements → Type 0
-PartAll t choice ss = Part t choice (λ x. scopes_in x ss) (λ x. varies_in x ss) (λ x. assigns_in x ss) (read_by_all (kinds_in t) ss) (restorings_in (kinds_in t) ss) (flows_in (is_ring_name (decls_in t)) ss)
+PartAll t choice ss = Part t choice (λ x. scopes_in x ss) (λ x. varies_in x ss) (λ x. assigns_in x ss) (read_by_all (kinds_in t) ss)
+    (restorings_in (kinds_in t) ss) (flows_in (is_ring_name (decls_in t)) ss)
 
 abbrev pub PartArms : (t : Setup) → (List ℕ → Choice) → Arms → Type 0
 PartArms t choice arms =
-    Part t choice (λ x. scopes_in_arms x arms) (λ x. varies_in_arms x arms) (λ x. assigns_in_arms x arms) (read_by_arms (kinds_in t) arms) (restorings_in_arms (kinds_in t) arms) (flows_in_arms (is_ring_name (decls_in t)) arms)
+    Part t choice (λ x. scopes_in_arms x arms) (λ x. varies_in_arms x arms) (λ x. assigns_in_arms x arms) (read_by_arms (kinds_in t) arms)
+    (restorings_in_arms (kinds_in t) arms) (flows_in_arms (is_ring_name (decls_in t)) arms)
 
 pub first_part : (t : Setup) (choice : List ℕ → Choice) (s : Statement) (ss : Statements) → PartAll t choice (statement s ss) → PartOne t choice s
-first_part t choice s ss h = left_part t choice _ (λ x. scopes_in x ss) _ (λ x. varies_in x ss) _ (λ x. assigns_in x ss) _ (read_by_all (kinds_in t) ss) _ (restorings_in (kinds_in t) ss) _ (flows_in (is_ring_name (decls_in t)) ss) h
+first_part t choice s ss h = left_part t choice _ (λ x. scopes_in x ss) _ (λ x. varies_in x ss) _ (λ x. assigns_in x ss) _
+    (read_by_all (kinds_in t) ss) _ (restorings_in (kinds_in t) ss) _ (flows_in (is_ring_name (decls_in t)) ss) h
 
 pub rest_part : (t : Setup) (choice : List ℕ → Choice) (s : Statement) (ss : Statements) → PartAll t choice (statement s ss) → PartAll t choice ss
-rest_part t choice s ss h = right_part t choice (λ x. scopes x s) _ (λ x. varies x s) _ (λ x. assigns x s) _ (read_by (kinds_in t) s) _ (restorings (kinds_in t) s) _ (flows (is_ring_name (decls_in t)) s) _ h
+rest_part t choice s ss h = right_part t choice (λ x. scopes x s) _ (λ x. varies x s) _ (λ x. assigns x s) _ (read_by (kinds_in t) s) _
+    (restorings (kinds_in t) s) _ (flows (is_ring_name (decls_in t)) s) _ h
 
-pub arms_part : (t : Setup) (choice : List ℕ → Choice) (line : ℕ) (arms : Arms) (other : Statements) → PartOne t choice (branch line arms other) → PartArms t choice arms
-arms_part t choice line arms ss h = left_part t choice _ (λ x. scopes_in x ss) _ (λ x. varies_in x ss) _ (λ x. assigns_in x ss) _ (read_by_all (kinds_in t) ss) _ (restorings_in (kinds_in t) ss) _ (flows_in (is_ring_name (decls_in t)) ss) h
+pub arms_part : (t : Setup) (choice : List ℕ → Choice) (line : ℕ) (arms : Arms) (other : Statements)
+    → PartOne t choice (branch line arms other) → PartArms t choice arms
+arms_part t choice line arms ss h =
+    left_part t choice _ (λ x. scopes_in x ss) _ (λ x. varies_in x ss) _ (λ x. assigns_in x ss) _ (read_by_all (kinds_in t) ss) _
+    (restorings_in (kinds_in t) ss) _ (flows_in (is_ring_name (decls_in t)) ss) h
 
-pub other_part : (t : Setup) (choice : List ℕ → Choice) (line : ℕ) (arms : Arms) (other : Statements) → PartOne t choice (branch line arms other) → PartAll t choice other
+pub other_part : (t : Setup) (choice : List ℕ → Choice) (line : ℕ) (arms : Arms) (other : Statements)
+    → PartOne t choice (branch line arms other) → PartAll t choice other
 other_part t choice line arms ss h =
-    right_part t choice (λ x. scopes_in_arms x arms) _ (λ x. varies_in_arms x arms) _ (λ x. assigns_in_arms x arms) _ (read_by_arms (kinds_in t) arms) _ (restorings_in_arms (kinds_in t) arms) _ (flows_in_arms (is_ring_name (decls_in t)) arms) _ h
+    right_part t choice (λ x. scopes_in_arms x arms) _ (λ x. varies_in_arms x arms) _ (λ x. assigns_in_arms x arms) _
+    (read_by_arms (kinds_in t) arms) _ (restorings_in_arms (kinds_in t) arms) _ (flows_in_arms (is_ring_name (decls_in t)) arms) _ h
 
-pub arm_part : (t : Setup) (choice : List ℕ → Choice) (test : Condition) (body : Statements) (arms : Arms) → PartArms t choice (arm test body arms) → PartAll t choice body
+pub arm_part : (t : Setup) (choice : List ℕ → Choice) (test : Condition) (body : Statements) (arms : Arms)
+    → PartArms t choice (arm test body arms) → PartAll t choice body
 arm_part t choice test body arms h =
-    left_part t choice _ (λ x. scopes_in_arms x arms) _ (λ x. varies_in_arms x arms) _ (λ x. assigns_in_arms x arms) _ (read_by_arms (kinds_in t) arms) _ (restorings_in_arms (kinds_in t) arms) _ (flows_in_arms (is_ring_name (decls_in t)) arms) h
+    left_part t choice _ (λ x. scopes_in_arms x arms) _ (λ x. varies_in_arms x arms) _ (λ x. assigns_in_arms x arms) _
+    (read_by_arms (kinds_in t) arms) _ (restorings_in_arms (kinds_in t) arms) _ (flows_in_arms (is_ring_name (decls_in t)) arms) h
 
-pub later_part : (t : Setup) (choice : List ℕ → Choice) (test : Condition) (body : Statements) (arms : Arms) → PartArms t choice (arm test body arms) → PartArms t choice arms
+pub later_part : (t : Setup) (choice : List ℕ → Choice) (test : Condition) (body : Statements) (arms : Arms)
+    → PartArms t choice (arm test body arms) → PartArms t choice arms
 later_part t choice test body arms h =
-    right_part t choice (λ x. scopes_in x body) _ (λ x. varies_in x body) _ (λ x. assigns_in x body) _ (read_by_all (kinds_in t) body) _ (restorings_in (kinds_in t) body) _ (flows_in (is_ring_name (decls_in t)) body) _ h
+    right_part t choice (λ x. scopes_in x body) _ (λ x. varies_in x body) _ (λ x. assigns_in x body) _ (read_by_all (kinds_in t) body) _
+    (restorings_in (kinds_in t) body) _ (flows_in (is_ring_name (decls_in t)) body) _ h
 
 -- in a loop, where the choices are others
-pub body_part : (t : Setup) (choice chosen : List ℕ → Choice) (line number : ℕ) (directive : Option Directive) (var : List ℕ) (first last : Expression) (step : Option Expression) (body : Statements)
-    → PartOne t choice (loop line number directive var first last step body) → ((x : List ℕ) → assigns_in x body ≡ true → t.active x ≡ true → is_reduction (chosen x) ≡ false) → PartAll t chosen body
+pub body_part : (t : Setup) (choice chosen : List ℕ → Choice) (line number : ℕ) (directive : Option Directive) (var : List ℕ)
+    (first last : Expression) (step : Option Expression) (body : Statements)
+    → PartOne t choice (loop line number directive var first last step body)
+    → ((x : List ℕ) → assigns_in x body ≡ true → t.active x ≡ true → is_reduction (chosen x) ≡ false) → PartAll t chosen body
 body_part t choice chosen line number directive var first last step body h kept = record {
-  scoped = λ x k. h.scoped x (or_right (bytes_eq x var) (is_listed_private x directive || scopes_in x body) (or_right (is_listed_private x directive) (scopes_in x body) k));
+  scoped = λ x k. h.scoped x (or_right (bytes_eq x var) (is_listed_private x directive || scopes_in x body)
+      (or_right (is_listed_private x directive) (scopes_in x body) k));
   varied = λ x k. h.varied x (or_right (bytes_eq x var) (varies_in x body) k);
   read = h.read;
   restored = h.restored;
@@ -179,7 +198,8 @@ mutual
   private_one x (assignment line atomic p e) v h = h
   private_one x (branch line arms other) v h =
       let q = or_parts (varies_in_arms x arms) (varies_in x other) v in
-      or_to (scopes_in_arms x arms) (scopes_in x other) (λ k. or_left (is_private_within_arms x arms) (is_private_within_all x other) (private_arms x arms q.0 k))
+      or_to (scopes_in_arms x arms) (scopes_in x other)
+      (λ k. or_left (is_private_within_arms x arms) (is_private_within_all x other) (private_arms x arms q.0 k))
       (λ k. or_right (is_private_within_arms x arms) (is_private_within_all x other) (private_all x other q.1 k)) h
   private_one x (loop line number None var first last step body) v h =
       let q = or_parts (bytes_eq x var) (varies_in x body) v in
@@ -187,20 +207,24 @@ mutual
   private_one x (loop line number (Some d) var first last step body) v h =
       let q = or_parts (bytes_eq x var) (varies_in x body) v in
       or_to (bytes_eq x var) (has_name x d.privates || scopes_in x body) (λ k. never (bytes_eq x var) k q.0)
-      (or_to (has_name x d.privates) (scopes_in x body) (λ k. or_left (has_name x d.privates && not (bytes_eq x var || varies_in x body)) (is_private_within_all x body) (and_from (has_name x d.privates) (not (bytes_eq x var || varies_in x body)) k (ap not v)))
+      (or_to (has_name x d.privates) (scopes_in x body)
+      (λ k. or_left (has_name x d.privates && not (bytes_eq x var || varies_in x body)) (is_private_within_all x body)
+      (and_from (has_name x d.privates) (not (bytes_eq x var || varies_in x body)) k (ap not v)))
       (λ k. or_right (has_name x d.privates && not (bytes_eq x var || varies_in x body)) (is_private_within_all x body) (private_all x body q.1 k))) h
 
   pub private_all : (x : List ℕ) (ss : Statements) → varies_in x ss ≡ false → scopes_in x ss ≡ true → is_private_within_all x ss ≡ true
   private_all x no_statements v h = h
   private_all x (statement s ss) v h =
       let q = or_parts (varies x s) (varies_in x ss) v in
-      or_to (scopes x s) (scopes_in x ss) (λ k. or_left (is_private_within x s) (is_private_within_all x ss) (private_one x s q.0 k)) (λ k. or_right (is_private_within x s) (is_private_within_all x ss) (private_all x ss q.1 k)) h
+      or_to (scopes x s) (scopes_in x ss) (λ k. or_left (is_private_within x s) (is_private_within_all x ss) (private_one x s q.0 k))
+      (λ k. or_right (is_private_within x s) (is_private_within_all x ss) (private_all x ss q.1 k)) h
 
   private_arms : (x : List ℕ) (arms : Arms) → varies_in_arms x arms ≡ false → scopes_in_arms x arms ≡ true → is_private_within_arms x arms ≡ true
   private_arms x no_arms v h = h
   private_arms x (arm test body arms) v h =
       let q = or_parts (varies_in x body) (varies_in_arms x arms) v in
-      or_to (scopes_in x body) (scopes_in_arms x arms) (λ k. or_left (is_private_within_all x body) (is_private_within_arms x arms) (private_all x body q.0 k))
+      or_to (scopes_in x body) (scopes_in_arms x arms)
+      (λ k. or_left (is_private_within_all x body) (is_private_within_arms x arms) (private_all x body q.0 k))
       (λ k. or_right (is_private_within_all x body) (is_private_within_arms x arms) (private_arms x arms q.1 k)) h
 
 -- ---- what is in scope
@@ -218,7 +242,8 @@ pub record Scene (t : Setup) (vars : List (List ℕ)) (parallel : Option Region)
   pub varying : (x : List ℕ) → has_name x vars ≡ true → is_varying t.program x ≡ true
 
 -- a name that may be used is no loop's own, a variable in scope, or private in the parallel loop around
-in_scope : {P : Type 0} (t : Setup) (vars : List (List ℕ)) (parallel : Option Region) (x : List ℕ) → IsUsable t.program vars parallel x → (is_scoped t x ≡ false → P) → (has_name x vars ≡ true → P) → (is_varying t.program x ≡ false → is_own_in parallel x ≡ true → P) → P
+in_scope : {P : Type 0} (t : Setup) (vars : List (List ℕ)) (parallel : Option Region) (x : List ℕ) → IsUsable t.program vars parallel x
+    → (is_scoped t x ≡ false → P) → (has_name x vars ≡ true → P) → (is_varying t.program x ≡ false → is_own_in parallel x ≡ true → P) → P
 in_scope t vars parallel x h plain scope owned =
     by_cases (is_scoped t x)
     (λ s. by_cases (is_varying t.program x) (λ v. scope (by_variable (is_varying t.program x) (has_name x vars) v h.scope))
@@ -234,12 +259,17 @@ in_scope t vars parallel x h plain scope owned =
     by_private true true o e k f g = f refl
     by_private true false o e k f g = g (no_not o k)
 
-pub seen : (t : Setup) (vars : List (List ℕ)) (parallel : Option Region) (n l : List ℕ → Bool) → Scene t vars parallel n l → (x : List ℕ) → t.needed x ≡ true → IsUsable t.program vars parallel x → n x ≡ true
+pub seen : (t : Setup) (vars : List (List ℕ)) (parallel : Option Region) (n l : List ℕ → Bool) → Scene t vars parallel n l → (x : List ℕ)
+    → t.needed x ≡ true → IsUsable t.program vars parallel x → n x ≡ true
 seen t vars parallel n l c x h k = in_scope t vars parallel x k (λ s. c.plain x h s) (λ s. c.scope x s) (λ v o. c.owned x h v o)
 
-pub shown : (t : Setup) → Facts t → (vars : List (List ℕ)) (parallel : Option Region) (n l : List ℕ → Bool) → Scene t vars parallel n l → (x : List ℕ) → t.active x ≡ true → IsUsable t.program vars parallel x → l x ≡ true
+pub shown : (t : Setup) → Facts t → (vars : List (List ℕ)) (parallel : Option Region) (n l : List ℕ → Bool) → Scene t vars parallel n l
+    → (x : List ℕ) → t.active x ≡ true → IsUsable t.program vars parallel x → l x ≡ true
 shown t f vars parallel n l c x h k =
-    in_scope t vars parallel x k (λ s. c.plain_live x h s) (λ s. never (is_ring_name (decls_in t) x) (f.ring x h) (f.whole x (c.varying x s))) (λ v o. c.owned_live x h v o)
+    in_scope t vars parallel x k (λ s. c.plain_live x h s)
+    (λ s. never (is_ring_name (decls_in t) x) (f.ring x h) (f.whole x (c.varying x s))) (λ v o. c.owned_live x h v o)
 
-pub target_usable : (p : Program) (vars : List (List ℕ)) (parallel : Option Region) (x : List ℕ) → IsTarget p vars parallel x → IsUsable p vars parallel x
-target_usable p vars parallel x h = record { known = h.known; scope = Rattle.std.proofs.lemmas.Bool.and_left (is_varying p x) (not (has_name x vars)) h.fixed; own = h.own }
+pub target_usable : (p : Program) (vars : List (List ℕ)) (parallel : Option Region) (x : List ℕ) → IsTarget p vars parallel x
+    → IsUsable p vars parallel x
+target_usable p vars parallel x h =
+    record { known = h.known; scope = Rattle.std.proofs.lemmas.Bool.and_left (is_varying p x) (not (has_name x vars)) h.fixed; own = h.own }

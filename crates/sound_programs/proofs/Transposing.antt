@@ -20,9 +20,12 @@ use Rattle.sound_programs.proofs.Collecting.{choices_fit}
 use Rattle.sound_programs.proofs.Programs.{programs_sound, names_fit, low_unowned}
 
 pub accepted_transposed : AcceptedIsTransposed
-accepted_transposed p of wrt values choices limits words vs seed s2 j d a kept fitting apart small run stop like wide long bounded dead there content asked active =
-    program_transposed (program_tree p) (shapes_of p values) (is_needed p (is_active p of wrt)) (is_active p of wrt) choices (outer_use p of wrt) limits words vs seed s2 j d
-    (programs_sound p of wrt values choices a kept fitting) apart small run stop like wide long bounded (λ q l m. dead q (n.seeded (name_at w.site.keys q) l m)) there content
+accepted_transposed p of wrt values choices limits words vs seed s2 j d a kept fitting apart small run stop like wide long bounded dead
+    there content asked active =
+    program_transposed (program_tree p) (shapes_of p values) (is_needed p (is_active p of wrt)) (is_active p of wrt) choices
+    (outer_use p of wrt) limits words vs seed s2 j d
+    (programs_sound p of wrt values choices a kept fitting) apart small run stop like wide long bounded
+    (λ q l m. dead q (n.seeded (name_at w.site.keys q) l m)) there content
     (live (name_at w.site.keys j) active (low_unowned p of wrt values a j there)) (n.moved (name_at w.site.keys j) asked)
   where
     w : World
@@ -37,21 +40,28 @@ accepted_transposed p of wrt values choices limits words vs seed s2 j d a kept f
 -- ---- where no choice is Shared
 
 mutual
-  apart_one : (a : Statement) (w : World) (s : Cells) → ((number : ℕ) (x : List ℕ) → is_one_step (w.choices number x) ≡ true) → Pairwise SharedApart a w s
+  apart_one : (a : Statement) (w : World) (s : Cells) → ((number : ℕ) (x : List ℕ) → is_one_step (w.choices number x) ≡ true)
+      → Pairwise SharedApart a w s
   apart_one (assignment line atomic p e) w s h = tt
   apart_one (branch line arms other) w s h = apart_arms arms other w s h (apart_all other w s h)
-  apart_one (loop line number None var first last step body) w s h = λ t e k b s1 g. apart_all body (in_turn w var) (set_at (place_of w.site var []) (Some (Index (value_at t k))) s1) h
-  apart_one (loop line number (Some d) var first last step body) w s h = λ heads e i j a b c. λ q o f g. never (is_one_step (w.choices number (name_at w.site.keys q))) (h number (name_at w.site.keys q)) o
+  apart_one (loop line number None var first last step body) w s h =
+      λ t e k b s1 g. apart_all body (in_turn w var) (set_at (place_of w.site var []) (Some (Index (value_at t k))) s1) h
+  apart_one (loop line number (Some d) var first last step body) w s h =
+      λ heads e i j a b c. λ q o f g. never (is_one_step (w.choices number (name_at w.site.keys q))) (h number (name_at w.site.keys q)) o
 
-  pub apart_all : (ss : Statements) (w : World) (s : Cells) → ((number : ℕ) (x : List ℕ) → is_one_step (w.choices number x) ≡ true) → PairwiseAll SharedApart ss w s
+  pub apart_all : (ss : Statements) (w : World) (s : Cells) → ((number : ℕ) (x : List ℕ) → is_one_step (w.choices number x) ≡ true)
+      → PairwiseAll SharedApart ss w s
   apart_all no_statements w s h = tt
   apart_all (statement a ss) w s h = (apart_one a w s h, λ s1 e. apart_all ss w s1 h)
 
-  apart_arms : (arms : Arms) (other : Statements) (w : World) (s : Cells) → ((number : ℕ) (x : List ℕ) → is_one_step (w.choices number x) ≡ true) → PairwiseAll SharedApart other w s → PairwiseArms SharedApart arms (PairwiseAll SharedApart other w s) w s
+  apart_arms : (arms : Arms) (other : Statements) (w : World) (s : Cells)
+      → ((number : ℕ) (x : List ℕ) → is_one_step (w.choices number x) ≡ true) → PairwiseAll SharedApart other w s
+      → PairwiseArms SharedApart arms (PairwiseAll SharedApart other w s) w s
   apart_arms no_arms other w s h c = c
   apart_arms (arm test body arms) other w s h c = λ p e. by_test p (apart_all body w s h) (apart_arms arms other w s h c)
     where
-      by_test : (p : Bool) → PairwiseAll SharedApart body w s → PairwiseArms SharedApart arms (PairwiseAll SharedApart other w s) w s → cond p (PairwiseAll SharedApart body w s) (PairwiseArms SharedApart arms (PairwiseAll SharedApart other w s) w s)
+      by_test : (p : Bool) → PairwiseAll SharedApart body w s → PairwiseArms SharedApart arms (PairwiseAll SharedApart other w s) w s
+          → cond p (PairwiseAll SharedApart body w s) (PairwiseArms SharedApart arms (PairwiseAll SharedApart other w s) w s)
       by_test true f g = f
       by_test false f g = g
 
@@ -59,4 +69,5 @@ pub made_transposed : MadeIsTransposed
 made_transposed p of wrt values limits words vs seed s2 j d a kept =
     let k = choices_fit p of wrt a in
     let w = world_of_program p of wrt values (made_choices p of wrt) in
-    accepted_transposed p of wrt values (made_choices p of wrt) limits words vs seed s2 j d a kept k.fitting (apart_all (stmt_trees p.body) w (cells_along (unit j) (entry_cells (program_tree p) (shapes_of p values) words)) k.one_step)
+    accepted_transposed p of wrt values (made_choices p of wrt) limits words vs seed s2 j d a kept k.fitting
+    (apart_all (stmt_trees p.body) w (cells_along (unit j) (entry_cells (program_tree p) (shapes_of p values) words)) k.one_step)

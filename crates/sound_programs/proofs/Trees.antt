@@ -28,15 +28,20 @@ use Rattle.sound_programs.proofs.Setups.{Setup, decls_in, is_scoped, Scene, worl
 
 -- ---- loops
 
-pub head_clean : (p : Program) (s : Surroundings) (line : ℕ) (var : List ℕ) (first last : Expression) (step : Option Expression) → Clean p (m.in_head (m.at_bounds s line) var first last step) → IsVariable p s.vars var
-head_clean p s line var first last step h = variable_clean p (m.at_bounds s line) var (at_first p (a_variable (m.at_bounds s line) var) (m.in_bound (m.at_bounds s line) first ++ (m.in_bound (m.at_bounds s line) last ++ m.in_step (m.at_bounds s line) step)) h).0
+pub head_clean : (p : Program) (s : Surroundings) (line : ℕ) (var : List ℕ) (first last : Expression) (step : Option Expression)
+    → Clean p (m.in_head (m.at_bounds s line) var first last step) → IsVariable p s.vars var
+head_clean p s line var first last step h =
+    variable_clean p (m.at_bounds s line) var
+    (at_first p (a_variable (m.at_bounds s line) var)
+    (m.in_bound (m.at_bounds s line) first ++ (m.in_bound (m.at_bounds s line) last ++ m.in_step (m.at_bounds s line) step)) h).0
 
 -- a loop: its variable, and its body
 pub record LoopClean (p : Program) (s : Surroundings) (directive : Option Directive) (var : List ℕ) (body : Statements) : Type 0 where
   pub variable : IsVariable p s.vars var
   pub inside : Clean p (m.in_statements (m.at_body s var (m.made_parallel directive var body)) body)
 
-pub loop_clean : (p : Program) (s : Surroundings) (line number : ℕ) (directive : Option Directive) (var : List ℕ) (first last : Expression) (step : Option Expression) (body : Statements)
+pub loop_clean : (p : Program) (s : Surroundings) (line number : ℕ) (directive : Option Directive) (var : List ℕ) (first last : Expression)
+    (step : Option Expression) (body : Statements)
     → Clean p (m.in_statement s (loop line number directive var first last step body)) → LoopClean p s directive var body
 loop_clean p s line number directive var first last step body h =
     let l = m.made_parallel directive var body in
@@ -47,40 +52,51 @@ loop_clean p s line number directive var first last step body h =
 -- ---- variables aren't set
 
 keeps_listed : (line number : ℕ) (outer : List (List ℕ)) (d : Directive) (var : List ℕ) (body : Statements) (x : List ℕ)
-    → keeps_variables (record { line = line; number = number; outer = outer; directive = d; var = var; body = body }) ≡ true → has_name x outer ≡ true → has_name x d.privates ≡ false
-keeps_listed line number outer d var body x h o = fails (has_name x d.privates) (λ k. never (has_name x outer) o (not_yes (has_name x outer) (every_name (λ y. not (has_name y outer)) x d.privates h k)))
+    → keeps_variables (record { line = line; number = number; outer = outer; directive = d; var = var; body = body }) ≡ true
+    → has_name x outer ≡ true → has_name x d.privates ≡ false
+keeps_listed line number outer d var body x h o =
+    fails (has_name x d.privates) (λ k. never (has_name x outer) o
+    (not_yes (has_name x outer) (every_name (λ y. not (has_name y outer)) x d.privates h k)))
 
 mutual
-  unset_one : (p : Program) (s : Surroundings) (x : List ℕ) (a : Statement) → Clean p (m.in_statement s a) → list_all keeps_variables (loops_of s.vars a) ≡ true → has_name x s.vars ≡ true → is_varying p x ≡ true → writes x a ≡ false
-  unset_one p s x (assignment line atomic t e) h g o v = fails (bytes_eq x t.name) (λ k. never (is_varying p x) v (ap (is_varying p) (same_name x t.name k) ∙ (assignment_clean p s line atomic t e h).target.fixed))
+  unset_one : (p : Program) (s : Surroundings) (x : List ℕ) (a : Statement) → Clean p (m.in_statement s a)
+      → list_all keeps_variables (loops_of s.vars a) ≡ true → has_name x s.vars ≡ true → is_varying p x ≡ true → writes x a ≡ false
+  unset_one p s x (assignment line atomic t e) h g o v =
+      fails (bytes_eq x t.name) (λ k. never (is_varying p x) v
+      (ap (is_varying p) (same_name x t.name k) ∙ (assignment_clean p s line atomic t e h).target.fixed))
   unset_one p s x (branch line arms other) h g o v =
       let q = apart p (m.in_arms s line arms) (m.in_statements s other) h in
       let r = all_parts keeps_variables (loops_of_arms s.vars arms) (loops_of_all s.vars other) g in
       or_from (writes_in_arms x arms) (writes_in x other) (unset_arms p s line x arms q.0 r.0 o v) (unset_all p s x other q.1 r.1 o v)
   unset_one p s x (loop line number None var first last step body) h g o v =
       let c = loop_clean p s line number None var first last step body h in
-      or_from (bytes_eq x var) (writes_in x body) (fails (bytes_eq x var) (λ k. never (has_name x s.vars) o (ap (λ y. has_name y s.vars) (same_name x var k) ∙ c.variable.new)))
+      or_from (bytes_eq x var) (writes_in x body)
+      (fails (bytes_eq x var) (λ k. never (has_name x s.vars) o (ap (λ y. has_name y s.vars) (same_name x var k) ∙ c.variable.new)))
       (unset_all p (m.at_body s var None) x body c.inside g (or_right (bytes_eq x var) (has_name x s.vars) o) v)
   unset_one p s x (loop line number (Some d) var first last step body) h g o v =
       let c = loop_clean p s line number (Some d) var first last step body h in
       let l : ParallelLoop = record { line = line; number = number; outer = s.vars; directive = d; var = var; body = body } in
       let r = and_parts (keeps_variables l) (list_all keeps_variables (loops_of_all (var ∷ s.vars) body)) g in
-      or_from (bytes_eq x var) (has_name x d.privates || writes_in x body) (fails (bytes_eq x var) (λ k. never (has_name x s.vars) o (ap (λ y. has_name y s.vars) (same_name x var k) ∙ c.variable.new)))
+      or_from (bytes_eq x var) (has_name x d.privates || writes_in x body)
+      (fails (bytes_eq x var) (λ k. never (has_name x s.vars) o (ap (λ y. has_name y s.vars) (same_name x var k) ∙ c.variable.new)))
       (or_from (has_name x d.privates) (writes_in x body) (keeps_listed line number s.vars d var body x r.0 o)
       (unset_all p (m.at_body s var (m.made_parallel (Some d) var body)) x body c.inside r.1 (or_right (bytes_eq x var) (has_name x s.vars) o) v))
 
   -- the variables of the loops around aren't set
-  pub unset_all : (p : Program) (s : Surroundings) (x : List ℕ) (ss : Statements) → Clean p (m.in_statements s ss) → list_all keeps_variables (loops_of_all s.vars ss) ≡ true → has_name x s.vars ≡ true → is_varying p x ≡ true → writes_in x ss ≡ false
+  pub unset_all : (p : Program) (s : Surroundings) (x : List ℕ) (ss : Statements) → Clean p (m.in_statements s ss)
+      → list_all keeps_variables (loops_of_all s.vars ss) ≡ true → has_name x s.vars ≡ true → is_varying p x ≡ true → writes_in x ss ≡ false
   unset_all p s x no_statements h g o v = refl
   unset_all p s x (statement a ss) h g o v =
       let q = apart p (m.in_statement s a) (m.in_statements s ss) h in
       let r = all_parts keeps_variables (loops_of s.vars a) (loops_of_all s.vars ss) g in
       or_from (writes x a) (writes_in x ss) (unset_one p s x a q.0 r.0 o v) (unset_all p s x ss q.1 r.1 o v)
 
-  unset_arms : (p : Program) (s : Surroundings) (line : ℕ) (x : List ℕ) (arms : Arms) → Clean p (m.in_arms s line arms) → list_all keeps_variables (loops_of_arms s.vars arms) ≡ true → has_name x s.vars ≡ true → is_varying p x ≡ true → writes_in_arms x arms ≡ false
+  unset_arms : (p : Program) (s : Surroundings) (line : ℕ) (x : List ℕ) (arms : Arms) → Clean p (m.in_arms s line arms)
+      → list_all keeps_variables (loops_of_arms s.vars arms) ≡ true → has_name x s.vars ≡ true → is_varying p x ≡ true → writes_in_arms x arms ≡ false
   unset_arms p s line x no_arms h g o v = refl
   unset_arms p s line x (arm test body arms) h g o v =
-      let q = apart p (m.in_statements s body) (m.in_arms s line arms) (apart p (m.in_condition (m.at_line s line) test) (m.in_statements s body ++ m.in_arms s line arms) h).1 in
+      let q = apart p (m.in_statements s body) (m.in_arms s line arms)
+      (apart p (m.in_condition (m.at_line s line) test) (m.in_statements s body ++ m.in_arms s line arms) h).1 in
       let r = all_parts keeps_variables (loops_of_all s.vars body) (loops_of_arms s.vars arms) g in
       or_from (writes_in x body) (writes_in_arms x arms) (unset_all p s x body q.0 r.0 o v) (unset_arms p s line x arms q.1 r.1 o v)
 
@@ -90,26 +106,32 @@ mutual
   variable_one : (x : List ℕ) (a : Statement) → varies x a ≡ true → scopes x a ≡ true
   variable_one x (assignment line atomic t e) h = h
   variable_one x (branch line arms other) h =
-      or_to (varies_in_arms x arms) (varies_in x other) (λ k. or_left (scopes_in_arms x arms) (scopes_in x other) (variable_arms x arms k)) (λ k. or_right (scopes_in_arms x arms) (scopes_in x other) (variable_all x other k)) h
+      or_to (varies_in_arms x arms) (varies_in x other) (λ k. or_left (scopes_in_arms x arms) (scopes_in x other) (variable_arms x arms k))
+      (λ k. or_right (scopes_in_arms x arms) (scopes_in x other) (variable_all x other k)) h
   variable_one x (loop line number directive var first last step body) h =
       or_to (bytes_eq x var) (varies_in x body) (λ k. or_left (bytes_eq x var) (is_listed_private x directive || scopes_in x body) k)
-      (λ k. or_right (bytes_eq x var) (is_listed_private x directive || scopes_in x body) (or_right (is_listed_private x directive) (scopes_in x body) (variable_all x body k))) h
+      (λ k. or_right (bytes_eq x var) (is_listed_private x directive || scopes_in x body)
+      (or_right (is_listed_private x directive) (scopes_in x body) (variable_all x body k))) h
 
   pub variable_all : (x : List ℕ) (ss : Statements) → varies_in x ss ≡ true → scopes_in x ss ≡ true
   variable_all x no_statements h = h
-  variable_all x (statement a ss) h = or_to (varies x a) (varies_in x ss) (λ k. or_left (scopes x a) (scopes_in x ss) (variable_one x a k)) (λ k. or_right (scopes x a) (scopes_in x ss) (variable_all x ss k)) h
+  variable_all x (statement a ss) h =
+      or_to (varies x a) (varies_in x ss) (λ k. or_left (scopes x a) (scopes_in x ss) (variable_one x a k))
+      (λ k. or_right (scopes x a) (scopes_in x ss) (variable_all x ss k)) h
 
   variable_arms : (x : List ℕ) (arms : Arms) → varies_in_arms x arms ≡ true → scopes_in_arms x arms ≡ true
   variable_arms x no_arms h = h
   variable_arms x (arm test body arms) h =
-      or_to (varies_in x body) (varies_in_arms x arms) (λ k. or_left (scopes_in x body) (scopes_in_arms x arms) (variable_all x body k)) (λ k. or_right (scopes_in x body) (scopes_in_arms x arms) (variable_arms x arms k)) h
+      or_to (varies_in x body) (varies_in_arms x arms) (λ k. or_left (scopes_in x body) (scopes_in_arms x arms) (variable_all x body k))
+      (λ k. or_right (scopes_in x body) (scopes_in_arms x arms) (variable_arms x arms k)) h
 
 -- ---- no parallel loop in another
 
 mutual
   flat_one : (a : Statement) → has_parallel a ≡ false → IsFlat a
   flat_one (assignment line atomic t e) h = tt
-  flat_one (branch line arms other) h = let q = or_parts (has_parallel_in_arms arms) (has_parallel_in other) h in (flat_arms arms q.0, flat_all other q.1)
+  flat_one (branch line arms other) h = let q =
+      or_parts (has_parallel_in_arms arms) (has_parallel_in other) h in (flat_arms arms q.0, flat_all other q.1)
   flat_one (loop line number None var first last step body) h = flat_all body h
   flat_one (loop line number (Some d) var first last step body) h = never true refl h
 
@@ -148,25 +170,31 @@ pub record Outside (t : Setup) (h : Spot t) : Type 0 where
   pub dead : (x : List ℕ) → h.live x ≡ true → is_scoped t x ≡ false
 
 -- what typing and the limits of texts give of a part with these names and numbers, this many nodes, and these parallel loops
-pub record Given (t : Setup) (h : Spot t) (ms : List Mention) (kinded readable : Bool) (nodes : ℕ) (loops : List ParallelLoop) (parallel : Bool) : Type 0 where
+pub record Given (t : Setup) (h : Spot t) (ms : List Mention) (kinded readable : Bool) (nodes : ℕ) (loops : List ParallelLoop)
+    (parallel : Bool) : Type 0 where
   pub clean : Clean t.program ms
   pub kinds : kinded ≡ true
   pub read : readable ≡ true
   pub few : nodes < 2 ^ 64
   pub keeps : list_all keeps_variables loops ≡ true
-  pub fitting : (l : ParallelLoop) → IsAmong loops l → (x : List ℕ) → t.active x ≡ true → is_reduction (t.choices l.number x) ≡ true → IsCollectable t.program l x
+  pub fitting : (l : ParallelLoop) → IsAmong loops l → (x : List ℕ) → t.active x ≡ true → is_reduction (t.choices l.number x) ≡ true
+      → IsCollectable t.program l x
   pub outside : parallel ≡ true → Outside t h
 
 abbrev pub GivenOne : (t : Setup) → Spot t → Statement → Type 0
-GivenOne t h a = Given t h (m.in_statement h.around a) (is_well_kinded_statement (declared_names (decls_in t)) a) (is_readable_statement a) (statement_nodes a) (loops_of h.around.vars a) (has_parallel a)
+GivenOne t h a = Given t h (m.in_statement h.around a) (is_well_kinded_statement (declared_names (decls_in t)) a) (is_readable_statement a)
+    (statement_nodes a) (loops_of h.around.vars a) (has_parallel a)
 
 abbrev pub GivenAll : (t : Setup) → Spot t → Statements → Type 0
-GivenAll t h ss = Given t h (m.in_statements h.around ss) (are_well_kinded_statements (declared_names (decls_in t)) ss) (are_readable_statements ss) (nodes_of_all ss) (loops_of_all h.around.vars ss) (has_parallel_in ss)
+GivenAll t h ss = Given t h (m.in_statements h.around ss) (are_well_kinded_statements (declared_names (decls_in t)) ss)
+    (are_readable_statements ss) (nodes_of_all ss) (loops_of_all h.around.vars ss) (has_parallel_in ss)
 
 abbrev pub GivenArms : (t : Setup) → Spot t → ℕ → Arms → Type 0
-GivenArms t h line arms = Given t h (m.in_arms h.around line arms) (are_well_kinded_arms (declared_names (decls_in t)) arms) (are_readable_arms arms) (arm_nodes arms) (loops_of_arms h.around.vars arms) (has_parallel_in_arms arms)
+GivenArms t h line arms = Given t h (m.in_arms h.around line arms) (are_well_kinded_arms (declared_names (decls_in t)) arms)
+    (are_readable_arms arms) (arm_nodes arms) (loops_of_arms h.around.vars arms) (has_parallel_in_arms arms)
 
-pub left_given : (t : Setup) (h : Spot t) (ms ns : List Mention) (ka kb ra rb : Bool) (a b : ℕ) (ls ks : List ParallelLoop) (pa pb : Bool) → Given t h (ms ++ ns) (ka && kb) (ra && rb) (a + b) (ls ++ ks) (pa || pb) → Given t h ms ka ra a ls pa
+pub left_given : (t : Setup) (h : Spot t) (ms ns : List Mention) (ka kb ra rb : Bool) (a b : ℕ) (ls ks : List ParallelLoop) (pa pb : Bool)
+    → Given t h (ms ++ ns) (ka && kb) (ra && rb) (a + b) (ls ++ ks) (pa || pb) → Given t h ms ka ra a ls pa
 left_given t h ms ns ka kb ra rb a b ls ks pa pb g = record {
   clean = (apart t.program ms ns g.clean).0;
   kinds = (and_parts ka kb g.kinds).0;
@@ -177,7 +205,8 @@ left_given t h ms ns ka kb ra rb a b ls ks pa pb g = record {
   outside = λ k. g.outside (or_left pa pb k);
 }
 
-pub right_given : (t : Setup) (h : Spot t) (ms ns : List Mention) (ka kb ra rb : Bool) (a b : ℕ) (ls ks : List ParallelLoop) (pa pb : Bool) → Given t h (ms ++ ns) (ka && kb) (ra && rb) (a + b) (ls ++ ks) (pa || pb) → Given t h ns kb rb b ks pb
+pub right_given : (t : Setup) (h : Spot t) (ms ns : List Mention) (ka kb ra rb : Bool) (a b : ℕ) (ls ks : List ParallelLoop) (pa pb : Bool)
+    → Given t h (ms ++ ns) (ka && kb) (ra && rb) (a + b) (ls ++ ks) (pa || pb) → Given t h ns kb rb b ks pb
 right_given t h ms ns ka kb ra rb a b ls ks pa pb g = record {
   clean = (apart t.program ms ns g.clean).1;
   kinds = (and_parts ka kb g.kinds).1;

@@ -37,9 +37,11 @@ pub record HeadKinds (names : Names) (first last : Expression) (step : Option Ex
   pub literals : Literals first × Literals last × OptionLiterals step
   pub wholes : Whole names.ring first × Whole names.ring last × OptionWhole names.ring step
 
-pub head_kinds : (names : Names) (var : List ℕ) (first last : Expression) (step : Option Expression) → is_well_kinded_head names var first last step ≡ true → HeadKinds names first last step
+pub head_kinds : (names : Names) (var : List ℕ) (first last : Expression) (step : Option Expression)
+    → is_well_kinded_head names var first last step ≡ true → HeadKinds names first last step
 head_kinds names var first last step h =
-    let q = and_parts (is_index_scalar names var) (is_index_expression names first && (is_index_expression names last && is_index_step names step)) h in
+    let q = and_parts (is_index_scalar names var)
+    (is_index_expression names first && (is_index_expression names last && is_index_step names step)) h in
     let r = and_parts (is_index_expression names first) (is_index_expression names last && is_index_step names step) q.1 in
     let k = and_parts (is_index_expression names last) (is_index_step names step) r.1 in
     let a = bound_kinds names first r.0 in
@@ -52,11 +54,16 @@ inner_literals names no_statements h = tt
 inner_literals names (statement (assignment line atomic p e) ss) h = tt
 inner_literals names (statement (branch line arms other) ss) h = tt
 inner_literals names (statement (loop line number directive var first last step body) ss) h =
-    let q = and_parts (is_well_kinded_head names var first last step && (has_scalar_privates names directive && are_well_kinded_statements names body)) (are_well_kinded_statements names ss) h in
-    (head_kinds names var first last step (and_parts (is_well_kinded_head names var first last step) (has_scalar_privates names directive && are_well_kinded_statements names body) q.0).0).literals
+    let q = and_parts (is_well_kinded_head names var first last step &&
+    (has_scalar_privates names directive && are_well_kinded_statements names body)) (are_well_kinded_statements names ss) h in
+    (head_kinds names var first last step
+    (and_parts (is_well_kinded_head names var first last step)
+    (has_scalar_privates names directive && are_well_kinded_statements names body) q.0).0).literals
 
-pub further_literals : (names : Names) (directive : Directive) (body : Statements) → are_well_kinded_statements names body ≡ true → HeadLiterals (further_head directive body)
-further_literals names directive body h = at_test (λ b. HeadLiterals (if b then inner_head body else None)) (is_nest directive body) (λ e. inner_literals names body h) (λ e. tt)
+pub further_literals : (names : Names) (directive : Directive) (body : Statements) → are_well_kinded_statements names body ≡ true
+    → HeadLiterals (further_head directive body)
+further_literals names directive body h =
+    at_test (λ b. HeadLiterals (if b then inner_head body else None)) (is_nest directive body) (λ e. inner_literals names body h) (λ e. tt)
 
 -- ---- variables
 
@@ -64,27 +71,34 @@ pub record InnerVariable (p : Program) (vars : List (List ℕ)) (body : Statemen
   pub variable : IsVariable p vars x
   pub varied : varies_in x body ≡ true
 
-pub inner_variables : (p : Program) (s : Surroundings) (body : Statements) → Clean p (m.in_statements s body) → (x : List ℕ) → IsAmong (variables_of (inner_head body)) x → InnerVariable p s.vars body x
+pub inner_variables : (p : Program) (s : Surroundings) (body : Statements) → Clean p (m.in_statements s body) → (x : List ℕ)
+    → IsAmong (variables_of (inner_head body)) x → InnerVariable p s.vars body x
 inner_variables p s no_statements h x i = absurd i
 inner_variables p s (statement (assignment line atomic t e) ss) h x i = absurd i
 inner_variables p s (statement (branch line arms other) ss) h x i = absurd i
 inner_variables p s (statement (loop line number directive var first last step body) ss) h x (inl e) =
-    let c = loop_clean p s line number directive var first last step body (apart p (m.in_statement s (loop line number directive var first last step body)) (m.in_statements s ss) h).0 in
+    let c = loop_clean p s line number directive var first last step body
+    (apart p (m.in_statement s (loop line number directive var first last step body)) (m.in_statements s ss) h).0 in
     record {
       variable = subst (IsVariable p s.vars) e c.variable;
-      varied = or_left (bytes_eq x var || varies_in x body) (varies_in x ss) (or_left (bytes_eq x var) (varies_in x body) (ap (bytes_eq x) e ∙ itself x));
+      varied = or_left (bytes_eq x var || varies_in x body) (varies_in x ss)
+          (or_left (bytes_eq x var) (varies_in x body) (ap (bytes_eq x) e ∙ itself x));
     }
 inner_variables p s (statement (loop line number directive var first last step body) ss) h x (inr i) = absurd i
 
 -- ---- turns
 
-pub turned_scene : (t : Setup) (vars : List (List ℕ)) (parallel : Option Region) (n l : List ℕ → Bool) (var : List ℕ) → is_varying t.program var ≡ true → Scene t vars parallel n l → Scene t (var ∷ vars) parallel (λ x. n x || bytes_eq x var) l
+pub turned_scene : (t : Setup) (vars : List (List ℕ)) (parallel : Option Region) (n l : List ℕ → Bool) (var : List ℕ)
+    → is_varying t.program var ≡ true → Scene t vars parallel n l → Scene t (var ∷ vars) parallel (λ x. n x || bytes_eq x var) l
 turned_scene t vars parallel n l var v c = record {
   plain = λ x d s. or_left (n x) (bytes_eq x var) (c.plain x d s);
-  scope = λ x h. or_to (bytes_eq x var) (has_name x vars) (λ k. or_right (n x) (bytes_eq x var) k) (λ k. or_left (n x) (bytes_eq x var) (c.scope x k)) h;
+  scope = λ x h. or_to (bytes_eq x var) (has_name x vars) (λ k. or_right (n x) (bytes_eq x var) k)
+      (λ k. or_left (n x) (bytes_eq x var) (c.scope x k)) h;
   owned = λ x d f o. or_left (n x) (bytes_eq x var) (c.owned x d f o);
-  needed = λ x h f. or_to (n x) (bytes_eq x var) (λ k. c.needed x k f) (λ k. never (is_varying t.program x) (ap (is_varying t.program) (same_name x var k) ∙ v) f) h;
-  within = λ x h w. or_to (n x) (bytes_eq x var) (λ k. or_right (bytes_eq x var) (has_name x vars) (c.within x k w)) (λ k. or_left (bytes_eq x var) (has_name x vars) k) h;
+  needed = λ x h f. or_to (n x) (bytes_eq x var) (λ k. c.needed x k f)
+      (λ k. never (is_varying t.program x) (ap (is_varying t.program) (same_name x var k) ∙ v) f) h;
+  within = λ x h w. or_to (n x) (bytes_eq x var) (λ k. or_right (bytes_eq x var) (has_name x vars) (c.within x k w))
+      (λ k. or_left (bytes_eq x var) (has_name x vars) k) h;
   plain_live = c.plain_live;
   owned_live = c.owned_live;
   live = c.live;
@@ -107,15 +121,19 @@ pub turned_outside : (t : Setup) (h : Spot t) (var : List ℕ) (v : is_varying t
 turned_outside t h var v o = record {
   alone = o.alone;
   silent = o.silent;
-  outer = λ x k. or_to (bytes_eq x var) (has_name x h.outer) (λ e. or_left (bytes_eq x var) (has_name x h.around.vars) e) (λ e. or_right (bytes_eq x var) (has_name x h.around.vars) (o.outer x e)) k;
-  own = λ x k s. or_to (h.needed x) (bytes_eq x var) (λ e. or_right (bytes_eq x var) (has_name x h.around.vars) (o.own x e s)) (λ e. or_left (bytes_eq x var) (has_name x h.around.vars) e) k;
+  outer = λ x k. or_to (bytes_eq x var) (has_name x h.outer) (λ e. or_left (bytes_eq x var) (has_name x h.around.vars) e)
+      (λ e. or_right (bytes_eq x var) (has_name x h.around.vars) (o.outer x e)) k;
+  own = λ x k s. or_to (h.needed x) (bytes_eq x var) (λ e. or_right (bytes_eq x var) (has_name x h.around.vars) (o.own x e s))
+      (λ e. or_left (bytes_eq x var) (has_name x h.around.vars) e) k;
   dead = o.dead;
 }
 
 pub own_of : (t : Setup) (h : Spot t) (x : List ℕ) → HasOnePlace (keys_in t) (count_in t) x → Own (world_of t h) x
 own_of t h x s = record { q = s.q; place = s.place; only = s.only; own = s.own }
 
-pub variable_sound : (t : Setup) → Facts t → (h : Spot t) (var : List ℕ) (first last : Expression) (step : Option Expression) → IsVariable t.program h.around.vars var → is_varying t.program var ≡ true → is_scoped t var ≡ true → HeadKinds (declared_names (decls_in t)) first last step
+pub variable_sound : (t : Setup) → Facts t → (h : Spot t) (var : List ℕ) (first last : Expression) (step : Option Expression)
+    → IsVariable t.program h.around.vars var → is_varying t.program var ≡ true → is_scoped t var ≡ true
+    → HeadKinds (declared_names (decls_in t)) first last step
     → SoundVariable (world_of t h) (use_of t h) var first last step
 variable_sound t f h var first last step c v s k =
     let o = f.own var c.known s in

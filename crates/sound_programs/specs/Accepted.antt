@@ -39,7 +39,8 @@ pub record IsAccepted (p : Program) (of wrt : List (List ℕ)) : Type 0 where
 
 -- where the reverse part of a program stands, for these choices: old values of the needed names are pushed
 abbrev pub world_of_program : Program → (of wrt : List (List ℕ)) → List Entry → (ℕ → List ℕ → Choice) → World
-world_of_program p of wrt values choices = program_world (program_tree p) (shapes_of p values) (is_needed p (is_active p of wrt)) (is_active p of wrt) choices
+world_of_program p of wrt values choices =
+    program_world (program_tree p) (shapes_of p values) (is_needed p (is_active p of wrt)) (is_active p of wrt) choices
 
 -- the one place of a scalar, from n on
 pub record HasOnePlace (keys : List Key) (n : ℕ) (x : List ℕ) : Type 0 where
@@ -57,7 +58,8 @@ pub record HasPlace (keys : List Key) (n : ℕ) (x : List ℕ) : Type 0 where
 -- what the law asks of a program's names holds
 abbrev pub ProgramsAreSound : Type 0
 ProgramsAreSound =
-    (p : Program) (of wrt : List (List ℕ)) (values : List Entry) (choices : ℕ → List ℕ → Choice) → IsAccepted p of wrt → all_keep_variables p ≡ true → AreFitting p (is_active p of wrt) choices
+    (p : Program) (of wrt : List (List ℕ)) (values : List Entry) (choices : ℕ → List ℕ → Choice) → IsAccepted p of wrt
+    → all_keep_variables p ≡ true → AreFitting p (is_active p of wrt) choices
     → SoundAll (world_of_program p of wrt values choices) (outer_use p of wrt) (stmt_trees p.body)
 
 -- a loop's own name has one place, and that behind the layout; a scalar that is none has a place of the layout, where no loop's own name has one
@@ -75,7 +77,8 @@ LayoutsFit =
 -- no parallel loop is in another, and each has a number of its own
 pub record LoopsFit (p : Program) : Type 0 where
   pub flat : (l : ParallelLoop) → IsAmong (loops_of_all [] (stmt_trees p.body)) l → AreFlat l.body
-  pub one : (l k : ParallelLoop) → IsAmong (loops_of_all [] (stmt_trees p.body)) l → IsAmong (loops_of_all [] (stmt_trees p.body)) k → l.number ≡ k.number → l ≡ k
+  pub one : (l k : ParallelLoop) → IsAmong (loops_of_all [] (stmt_trees p.body)) l → IsAmong (loops_of_all [] (stmt_trees p.body)) k
+      → l.number ≡ k.number → l ≡ k
 
 abbrev pub ParallelLoopsFit : Type 0
 ParallelLoopsFit = (p : Program) → IsReadable p → judged p ≡ Ok p → LoopsFit p
@@ -113,12 +116,16 @@ MadeChoicesFit = (p : Program) (of wrt : List (List ℕ)) → IsAccepted p of wr
 -- differentiated reads of names with the choice Shared are apart is for certificates to show.
 abbrev pub AcceptedIsTransposed : Type 0
 AcceptedIsTransposed =
-    (p : Program) (of wrt : List (List ℕ)) (values : List Entry) (choices : ℕ → List ℕ → Choice) (limits : Limits) (words vs seed : List ℕ) (s2 : Cells) (j : ℕ) (d : Dual)
+    (p : Program) (of wrt : List (List ℕ)) (values : List Entry) (choices : ℕ → List ℕ → Choice) (limits : Limits) (words vs seed : List ℕ)
+    (s2 : Cells) (j : ℕ) (d : Dual)
     → let w = world_of_program p of wrt values choices in
     let s = entry_cells (program_tree p) (shapes_of p values) words in
-    IsAccepted p of wrt → all_keep_variables p ≡ true → AreFitting p (is_active p of wrt) choices → PairwiseAll SharedApart (stmt_trees p.body) w (cells_along (unit j) s) → All (λ x. x < 2 ^ 64) words
-    → (run_of (program_tree p) (shapes_of p values) (is_needed p (is_active p of wrt)) s).out ≡ Ok s2 → first_stop by_conflict limits (events (run_of (program_tree p) (shapes_of p values) (is_needed p (is_active p of wrt)) s).log) ≡ at_end
-    → Like (outer_use p of wrt) w.site.keys vs s2 → length vs ≡ length w.site.keys → length seed ≡ length w.site.keys → AreWords seed → ((q : ℕ) → has_name (name_at w.site.keys q) of ≡ false → slice_index seed q ≡ 0)
+    IsAccepted p of wrt → all_keep_variables p ≡ true → AreFitting p (is_active p of wrt) choices
+    → PairwiseAll SharedApart (stmt_trees p.body) w (cells_along (unit j) s) → All (λ x. x < 2 ^ 64) words
+    → (run_of (program_tree p) (shapes_of p values) (is_needed p (is_active p of wrt)) s).out ≡ Ok s2
+    → first_stop by_conflict limits (events (run_of (program_tree p) (shapes_of p values) (is_needed p (is_active p of wrt)) s).log) ≡ at_end
+    → Like (outer_use p of wrt) w.site.keys vs s2 → length vs ≡ length w.site.keys → length seed ≡ length w.site.keys → AreWords seed
+    → ((q : ℕ) → has_name (name_at w.site.keys q) of ≡ false → slice_index seed q ≡ 0)
     → j < w.shared → content s j ≡ Some (Ring d) → has_name (name_at w.site.keys j) wrt ≡ true → is_active p of wrt (name_at w.site.keys j) ≡ true
     → slice_index (reverse_run w (stmt_trees p.body) s vs seed).cells (w.shared + j) ≡ adjoint_of (program_tree p) (shapes_of p values) words seed j
 
@@ -129,8 +136,10 @@ MadeIsTransposed =
     → let w = world_of_program p of wrt values (made_choices p of wrt) in
     let s = entry_cells (program_tree p) (shapes_of p values) words in
     IsAccepted p of wrt → all_keep_variables p ≡ true → All (λ x. x < 2 ^ 64) words
-    → (run_of (program_tree p) (shapes_of p values) (is_needed p (is_active p of wrt)) s).out ≡ Ok s2 → first_stop by_conflict limits (events (run_of (program_tree p) (shapes_of p values) (is_needed p (is_active p of wrt)) s).log) ≡ at_end
-    → Like (outer_use p of wrt) w.site.keys vs s2 → length vs ≡ length w.site.keys → length seed ≡ length w.site.keys → AreWords seed → ((q : ℕ) → has_name (name_at w.site.keys q) of ≡ false → slice_index seed q ≡ 0)
+    → (run_of (program_tree p) (shapes_of p values) (is_needed p (is_active p of wrt)) s).out ≡ Ok s2
+    → first_stop by_conflict limits (events (run_of (program_tree p) (shapes_of p values) (is_needed p (is_active p of wrt)) s).log) ≡ at_end
+    → Like (outer_use p of wrt) w.site.keys vs s2 → length vs ≡ length w.site.keys → length seed ≡ length w.site.keys → AreWords seed
+    → ((q : ℕ) → has_name (name_at w.site.keys q) of ≡ false → slice_index seed q ≡ 0)
     → j < w.shared → content s j ≡ Some (Ring d) → has_name (name_at w.site.keys j) wrt ≡ true → is_active p of wrt (name_at w.site.keys j) ≡ true
     → slice_index (reverse_run w (stmt_trees p.body) s vs seed).cells (w.shared + j) ≡ adjoint_of (program_tree p) (shapes_of p values) words seed j
 
@@ -139,5 +148,7 @@ abbrev pub InactiveIsZero : Type 0
 InactiveIsZero =
     (p : Program) (of wrt : List (List ℕ)) (values : List Entry) (words seed : List ℕ) (j : ℕ)
     → let keys = (entry_site (program_tree p) (shapes_of p values) no_pushes).keys in
-    IsAccepted p of wrt → all_keep_variables p ≡ true → All (λ x. x < 2 ^ 64) words → ((q : ℕ) → has_name (name_at keys q) of ≡ false → slice_index seed q ≡ 0)
-    → has_name (name_at keys j) wrt ≡ true → is_active p of wrt (name_at keys j) ≡ false → adjoint_of (program_tree p) (shapes_of p values) words seed j ≡ 0
+    IsAccepted p of wrt → all_keep_variables p ≡ true → All (λ x. x < 2 ^ 64) words
+    → ((q : ℕ) → has_name (name_at keys q) of ≡ false → slice_index seed q ≡ 0)
+    → has_name (name_at keys j) wrt ≡ true → is_active p of wrt (name_at keys j) ≡ false
+    → adjoint_of (program_tree p) (shapes_of p values) words seed j ≡ 0

@@ -52,7 +52,8 @@ pub record IsCollectable (p : Program) (l : ParallelLoop) (x : List ℕ) : Type 
 
 abbrev pub AreFitting : Program → (active : List ℕ → Bool) → (ℕ → List ℕ → Choice) → Type 0
 AreFitting p active choices =
-    (l : ParallelLoop) → IsAmong (loops_of_all [] (stmt_trees p.body)) l → (x : List ℕ) → active x ≡ true → is_reduction (choices l.number x) ≡ true → IsCollectable p l x
+    (l : ParallelLoop) → IsAmong (loops_of_all [] (stmt_trees p.body)) l → (x : List ℕ) → active x ≡ true
+    → is_reduction (choices l.number x) ≡ true → IsCollectable p l x
 
 abbrev pub is_shared : Choice → Bool
 is_shared Shared = true
@@ -62,4 +63,5 @@ is_shared Reduction = false
 -- The choice for a name in the loop with a number. Where none is made, none of the increments of the name's adjoint is on a cell that
 -- iterations share, so that one step is as good as two.
 abbrev pub choice_in : List Chosen → ℕ → List ℕ → Choice
-choice_in choices number x = if has_choice is_reduction choices number x then Reduction else if has_choice is_shared choices number x then Shared else Atomic
+choice_in choices number x = if has_choice is_reduction choices number x then Reduction else if has_choice is_shared choices number x then
+    Shared else Atomic
