@@ -1,5 +1,5 @@
 -- Each parallel loop stands at its number.
-use Rattle.std.proofs.Common.{◌≡◌, ℕ, suc, ◌+◌, Bool, true, ◌&&◌, List, [], ◌∷◌, ◌++◌, map, Option, Some, None, refl, sym, ap, ◌∙◌, subst, arith}
+use Rattle.std.proofs.Common.{◌≡◌, ℕ, suc, ◌+◌, Bool, true, List, [], ◌∷◌, ◌++◌, Option, Some, None, refl, ap, ◌∙◌, subst, arith}
 use Rattle.std.specs.Prelude.{option_map, ◌==◌}
 use Rattle.std.specs.List.{AllByRecursion}
 use Rattle.std.proofs.lemmas.Bool.{eqb-true}
@@ -7,11 +7,9 @@ use Rattle.fl_ast.specs.declared.stmt.Program.{Program}
 use Rattle.fl_ast.specs.Measures.{loop_numbers, loop_numbers_of_all, loop_numbers_of_arms}
 use Rattle.fl_ast.specs.Readable.{counts_up_from}
 use Rattle.fl_ast.specs.Tree.{Statement, assignment, branch, loop, Statements, no_statements, statement, Arms, no_arms, arm, stmt_trees}
-use Rattle.fl_types.specs.WellTyped.{IsTyped}
-use Rattle.index_forms.specs.Loops.{HeadedLoop, headed_loops_of_all}
+use Rattle.index_forms.specs.Loops.{HeadedLoop}
 use Rattle.acceptance.proofs.NumberedItems.{numbered-map}
 use Rattle.certificate_rules.specs.Surveys.{numbered}
-use Rattle.certificate_check.specs.Pairs.{KnownLoop}
 use Rattle.loop_scenes.specs.Loops.{loops_by, loops_by_all, loops_by_arms, parallel_among}
 use Rattle.loop_scenes.proofs.Loops.{parallel_are}
 use Rattle.loop_pairs.specs.Known.{known_loop, known_in, known_of}

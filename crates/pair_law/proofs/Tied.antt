@@ -1,5 +1,5 @@
 -- The pairs of a name are those of what is known of subscripts.
-use Rattle.std.proofs.Common.{◌≡◌, ℕ, zero, suc, ◌+◌, ◌≤◌, Bool, true, false, ◌&&◌, ◌||◌, if◌then◌else◌, List, [], ◌∷◌, ◌++◌, length, Option, Some, None, refl, sym, ap, ◌∙◌, append_assoc, arith}
+use Rattle.std.proofs.Common.{◌≡◌, ℕ, suc, ◌+◌, ◌≤◌, Bool, true, false, ◌&&◌, ◌||◌, if◌then◌else◌, List, [], ◌∷◌, ◌++◌, length, Option, Some, None, refl, sym, ap, ◌∙◌, append_assoc, arith}
 use Rattle.std.specs.Prelude.{bytes_eq, nat_le}
 use Rattle.std.proofs.lemmas.List.{append-nil}
 use Rattle.std.proofs.lemmas.Bool.Decides.{nat_tests}
@@ -7,7 +7,6 @@ use Rattle.std.proofs.lemmas.Slice.Eq.{bytes_eq-Decides}
 use Rattle.fl_types.specs.declared.access.Access.{Access}
 use Rattle.fl_types.specs.Sharing.{has_name}
 use Rattle.index_forms.specs.Form.{Forms}
-use Rattle.index_forms.specs.Sums.{differences}
 use Rattle.index_knowledge.specs.Knowledge.{KnownPair, Pairing, pairing, is_read, is_paired, pair_of, and_pair, with_pairs_of, with_pairs_at, with_pairs, pairs}
 use Rattle.certificate_rules.specs.Surveys.{numbered, IsSurvey}
 use Rattle.certificate_check.specs.Pairs.{KnownLoop, is_pair_read, pair_read_of, pair_read_at, pair_of_two, pair_at}

@@ -1,5 +1,5 @@
 -- The choices of small loops compute, from the loop on.
-use Rattle.std.proofs.Common.{◌≡◌, ℕ, Bool, true, false, List, [], ◌∷◌, Option, Some, None, refl}
+use Rattle.std.proofs.Common.{◌≡◌, ℕ, false, List, [], ◌∷◌, Option, Some, None, refl}
 use Rattle.std.specs.Prelude.{codes}
 use Rattle.fl_ast.specs.declared.kind.Kind.{Kind}
 use Rattle.fl_ast.specs.declared.kind.Kind.TheVariants as kind
@@ -7,8 +7,7 @@ use Rattle.fl_ast.specs.declared.kind.Intent.TheVariants.{Unsaid}
 use Rattle.fl_ast.specs.declared.kind.BinOp.TheVariants.{Add, Sub, Mul}
 use Rattle.fl_ast.specs.declared.kind.RelOp.TheVariants.{Gt}
 use Rattle.fl_ast.specs.declared.decl.Decl.{Decl}
-use Rattle.fl_ast.specs.declared.directive.Directive.{Directive}
-use Rattle.fl_ast.specs.Tree.{Expression, literal, get, minus, binary, Expressions, no_expressions, expression, Designator, relation, Statement, assignment, branch, loop, Statements, no_statements, statement, no_arms, arm}
+use Rattle.fl_ast.specs.Tree.{Expression, literal, get, binary, no_expressions, expression, Designator, relation, Statement, assignment, branch, loop, Statements, no_statements, statement, no_arms, arm}
 use Rattle.fl_types.specs.declared.choice.Choice.{Choice}
 use Rattle.fl_types.specs.declared.choice.Choice.TheVariants.{Shared, Atomic}
 use Rattle.fl_types.specs.Sharing.{has_name}
