@@ -6,8 +6,8 @@ use Rattle.fl_ast.specs.Tree.{Expression, get, binary, Expressions}
 use Rattle.fl_ast.specs.Same.{same_expression}
 use Rattle.fl_types.specs.Increment.{Signed, longer, chain, first_of_sum}
 use Rattle.resolved.specs.SlotTables.{Names}
-use Rattle.sweep_steps.specs.Steps.{TermTree}
-use Rattle.made_steps.specs.Scopes.{front_terms, TermsStand}
+use Rattle.made_steps.specs.declared.terms.SignedExpr.{SignedExpr}
+use Rattle.made_steps.specs.Scopes.{front_terms, AreTerms}
 
 -- a chain is what stands before its last term, and that term
 pub record Grown (t a : Expression) (r : Signed) (rs : List Signed) : Type 0 where
@@ -42,6 +42,6 @@ only_one false r rs e = absurd (cc)
 pub summed : (t e a b : Expression) (rs : List Signed) → e ≡ binary Add a b → first_of_sum t e ≡ Some rs → (false, a) ∷ [] ≡ rs
 summed t e a b rs f h = only_one (same_expression t b) (false, a) rs (ap (first_of_sum t) (sym f) ∙ h)
 
-pub none_stand : (names : Names) (flags : List Bool) (terms : List TermTree) → terms ≡ [] → TermsStand names flags [] terms
-none_stand names flags [] h = record { back = refl; fit = refl }
-none_stand names flags (t ∷ terms) h = absurd (cc)
+pub none_are : (names : Names) (terms : List SignedExpr) → terms ≡ [] → AreTerms names [] terms
+none_are names [] h = record { back = refl; ready = refl }
+none_are names (t ∷ terms) h = absurd (cc)

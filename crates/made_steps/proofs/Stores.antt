@@ -117,6 +117,23 @@ sum_is names p e h =
     let w = sum_by (is_ring_in names p.name) (if_free p.name (chain (target_of p) e)) (if_free p.name (first_of_sum (target_of p) e)) h in
     record { rest = w.list; is_found = free_inner p.name (first_of_sum (target_of p) e) w.list w.is_list; is_rest = w.whole }
 
+pub chain_found : (names : Names) (p : Designator) (e : Expression) (rs : List Signed) → Some Chain ≡ form_in names p e → increment_terms (is_ring_in names) p e ≡ Some rs
+    → chain (target_of p) e ≡ Some rs
+chain_found names p e rs f h = let c = chain_is names p e f in c.is_found ∙ (sym c.is_rest ∙ h)
+
+pub sum_found : (names : Names) (p : Designator) (e : Expression) (rs : List Signed) → Some Sum ≡ form_in names p e → increment_terms (is_ring_in names) p e ≡ Some rs
+    → first_of_sum (target_of p) e ≡ Some rs
+sum_found names p e rs f h = let c = sum_is names p e f in c.is_found ∙ (sym c.is_rest ∙ h)
+
+-- an assignment that has a form has terms
+pub record Termed (names : Names) (p : Designator) (e : Expression) : Type 0 where
+  pub rest : List Signed
+  pub is_rest : increment_terms (is_ring_in names) p e ≡ Some rest
+
+pub termed : (names : Names) (p : Designator) (e : Expression) (form : IncrementForm) → Some form ≡ form_in names p e → Termed names p e
+termed names p e Chain f = let c = chain_is names p e f in record { rest = c.rest; is_rest = c.is_rest }
+termed names p e Sum f = let c = sum_is names p e f in record { rest = c.rest; is_rest = c.is_rest }
+
 pub found_some : (o : Option (List Signed)) (rs : List Signed) → o ≡ Some rs → is_some o ≡ true
 found_some o rs e = rw e refl
 

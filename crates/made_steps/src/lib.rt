@@ -11,4 +11,4 @@ mod terms;
 
 pub use laws::opening_is_outside;
 pub use steps::steps_of;
-pub use terms::{chain_terms, sum_terms};
+pub use terms::{SignedExpr, split_terms, terms_of};

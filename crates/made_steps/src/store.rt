@@ -15,7 +15,7 @@ ghost use Rattle.sweep_steps.specs.StepsStand.{StoreStands, Stands};
 ghost use Rattle.loop_scopes.specs.Scopes.{IsScope};
 ghost use Rattle.made_steps.specs.Scopes.{TermsStand, term_trees};
 
-use crate::terms::{chain_terms, sum_terms};
+use crate::terms::split_terms;
 use fl_ast::Memory;
 use fl_base::Items;
 use fl_types::{AccessKind, IncrementForm};
@@ -115,12 +115,9 @@ fn make_store(
 {
     match form {
         None => assign(alloc, table, pushed, marks, line, target, value),
-        Some(IncrementForm::Chain) => {
-            let terms = chain_terms(alloc, table, marks.accessed.as_slice(), value, target)?;
-            update(alloc, table, marks, line, atomic, target, terms)
-        }
-        Some(IncrementForm::Sum) => {
-            let terms = sum_terms(alloc, table, marks.accessed.as_slice(), value, target)?;
+        Some(form) => {
+            let accessed = marks.accessed.as_slice();
+            let terms = split_terms(alloc, table, accessed, form, target, value)?;
             update(alloc, table, marks, line, atomic, target, terms)
         }
     }

@@ -1,14 +1,14 @@
 -- Increments of adjoints that the terms of an increment make, and assignments that are undone.
-use Rattle.std.specs.Prelude.{◌≡◌, ℕ, ◌<◌, Bool, true, false, ◌||◌, List, [], ◌∷◌, ◌++◌, length, Option, Some, None, refl}
-use Rattle.std.proofs.Common.{ap, sym, ◌∙◌, subst, append_assoc, append-nil}
+use Rattle.std.specs.Prelude.{◌≡◌, ℕ, zero, suc, ◌+◌, ◌<◌, ◌≤◌, Bool, true, false, ◌||◌, List, [], ◌∷◌, ◌++◌, map, take, length, Option, Some, None, refl}
+use Rattle.std.proofs.Common.{ap, sym, ◌∙◌, subst, arith, get_or, drop, drop-cons, add-one, append_assoc, append-nil}
+use Rattle.std.specs.List.{list_all}
+use Rattle.std.proofs.lemmas.Bool.{and_parts}
+use Rattle.std.proofs.lemmas.List.{map-append}
 use Rattle.fl_ast.specs.Tree.{Expression, Designator}
-use Rattle.fl_types.specs.declared.increment.IncrementForm.{IncrementForm}
-use Rattle.fl_types.specs.declared.increment.IncrementForm.TheVariants.{Chain, Sum}
-use Rattle.fl_types.specs.Increment.{Signed, target_of, chain, first_of_sum, increment_terms}
+use Rattle.fl_types.specs.Increment.{Signed, increment_terms}
 use Rattle.store_core.specs.Keys.{HasEachOnce}
 use Rattle.resolved.specs.SlotTables.{Names, is_ring_in}
-use Rattle.resolved.specs.ResolvedExprs.{slot_name}
-use Rattle.resolved.specs.ResolvedStmts.{form_in}
+use Rattle.resolved.specs.ResolvedExprs.{slot_name, expression_back}
 use Rattle.sweep_trees.specs.Split.{SpotTree}
 use Rattle.sweep_trees.specs.Standing.{is_accessed_at}
 use Rattle.split_trees.specs.Codes.{SpotStandsFor}
@@ -19,8 +19,9 @@ use Rattle.transposition.specs.Back.{rest_occurrences}
 use Rattle.undo_steps.specs.UndoSteps.{GrowthTree}
 use Rattle.undo_steps.specs.UndosStand.{is_any_kind, SpotUndoes, EachGrowthStands, GrowthsStand, TermsStand, ReversalStands, PlainStands, IncrementStands}
 use Rattle.loop_scopes.proofs.Scopes.{marked_at}
-use Rattle.made_steps.specs.Scopes.{TermsStand as SplitTerms}
-use Rattle.made_steps.proofs.Stores.{chain_is, sum_is, same_ring, terms_at}
+use Rattle.made_steps.specs.declared.terms.SignedExpr.{SignedExpr}
+use Rattle.made_steps.specs.Scopes.{signed_of, is_signed_ready, TermsStand as SplitTerms}
+use Rattle.made_steps.proofs.Stores.{same_ring, terms_at}
 use Rattle.made_growths.specs.Told.{Told}
 use Rattle.made_undos.specs.UndoScopes.{IsUndoScope}
 
@@ -32,35 +33,41 @@ rest_more on (q ∷ front) r =
     ap (λ (l : List Occurrence). occurrences on q.1 q.0 [] ++ l) (rest_more on front r) ∙ sym (append_assoc (occurrences on q.1 q.0 []) (rest_occurrences on front) (occurrences on r.1 r.0 []))
 
 -- those of a term after those before it
-pub grown_rest : (names : Names) (w : World) (os : List Occurrence) (gs : List GrowthTree) (front : List Signed) (r : Signed) (rs : List Signed) → front ++ r ∷ [] ≡ rs
+grown_rest : (names : Names) (w : World) (os : List Occurrence) (gs : List GrowthTree) (front : List Signed) (r : Signed) (rs : List Signed) → front ++ r ∷ [] ≡ rs
     → EachGrowthStands names w ((os ++ rest_occurrences w.active front) ++ occurrences w.active r.1 r.0 []) gs → EachGrowthStands names w (os ++ rest_occurrences w.active rs) gs
 grown_rest names w os gs front r rs e h =
     subst (λ (qs : List Signed). EachGrowthStands names w (os ++ rest_occurrences w.active qs) gs) e
     (subst (λ (l : List Occurrence). EachGrowthStands names w (os ++ l) gs) (sym (rest_more w.active front r))
     (subst (λ (l : List Occurrence). EachGrowthStands names w l gs) (append_assoc os (rest_occurrences w.active front) (occurrences w.active r.1 r.0 [])) h))
 
--- there are no further terms
-pub no_rest : (names : Names) (w : World) (os : List Occurrence) (gs : List GrowthTree) (rs : List Signed) → [] ≡ rs → EachGrowthStands names w os gs
-    → EachGrowthStands names w (os ++ rest_occurrences w.active rs) gs
-no_rest names w os gs rs e h =
-    subst (λ (qs : List Signed). EachGrowthStands names w (os ++ rest_occurrences w.active qs) gs) e (subst (λ (l : List Occurrence). EachGrowthStands names w l gs) (sym (append-nil os)) h)
+-- the terms that a loop went over
+pub taken_more : (xs : List SignedExpr) (i : ℕ) (x : SignedExpr) → i < length xs → x ≡ get_or xs i x → take (i + 1) xs ≡ take i xs ++ x ∷ []
+taken_more xs i x h g = rw add-one (by_steps xs i x h g)
+  where
+    by_steps : (xs : List SignedExpr) (i : ℕ) (x : SignedExpr) → i < length xs → x ≡ get_or xs i x → take (suc i) xs ≡ take i xs ++ x ∷ []
+    by_steps [] i x h g = absurd (omega (arith, h))
+    by_steps (y ∷ xs) zero x h g = ap (λ (z : SignedExpr). z ∷ []) (sym g)
+    by_steps (y ∷ xs) (suc i) x h g = ap (λ (r : List SignedExpr). y ∷ r) (by_steps xs i x (omega (arith, h)) g)
 
--- there is one
-pub one_rest : (names : Names) (w : World) (os : List Occurrence) (gs : List GrowthTree) (r : Signed) (rs : List Signed) → r ∷ [] ≡ rs
-    → EachGrowthStands names w (os ++ occurrences w.active r.1 r.0 []) gs → EachGrowthStands names w (os ++ rest_occurrences w.active rs) gs
-one_rest names w os gs r rs e h =
-    subst (λ (qs : List Signed). EachGrowthStands names w (os ++ rest_occurrences w.active qs) gs) e
-    (subst (λ (l : List Occurrence). EachGrowthStands names w (os ++ l) gs) (sym (append-nil (occurrences w.active r.1 r.0 []))) h)
+pub taken_all : (xs : List SignedExpr) (i : ℕ) → length xs ≤ i → take i xs ≡ xs
+taken_all [] zero h = refl
+taken_all [] (suc i) h = refl
+taken_all (y ∷ xs) zero h = absurd (omega (arith, h))
+taken_all (y ∷ xs) (suc i) h = ap (λ (r : List SignedExpr). y ∷ r) (taken_all xs i (omega (arith, h)))
 
--- ---- forms
+-- those that it has to go over are ready
+pub ready_rest : (names : Names) (xs : List SignedExpr) (i : ℕ) (x : SignedExpr) → i < length xs → x ≡ get_or xs i x → list_all (is_signed_ready names) (drop i xs) ≡ true
+    → list_all (is_signed_ready names) (drop (i + 1) xs) ≡ true
+ready_rest names xs i x l g h =
+    rw add-one ((and_parts (is_signed_ready names (get_or xs i x)) (list_all (is_signed_ready names) (drop (suc i) xs)) (ap (list_all (is_signed_ready names)) (sym (drop-cons xs i x l)) ∙ h)).1)
 
-pub chain_found : (names : Names) (p : Designator) (e : Expression) (rs : List Signed) → Some Chain ≡ form_in names p e → increment_terms (is_ring_in names) p e ≡ Some rs
-    → chain (target_of p) e ≡ Some rs
-chain_found names p e rs f h = let c = chain_is names p e f in c.is_found ∙ (sym c.is_rest ∙ h)
-
-pub sum_found : (names : Names) (p : Designator) (e : Expression) (rs : List Signed) → Some Sum ≡ form_in names p e → increment_terms (is_ring_in names) p e ≡ Some rs
-    → first_of_sum (target_of p) e ≡ Some rs
-sum_found names p e rs f h = let c = sum_is names p e f in c.is_found ∙ (sym c.is_rest ∙ h)
+-- those of one term more
+pub grown_more : (names : Names) (w : World) (os : List Occurrence) (gs : List GrowthTree) (xs : List SignedExpr) (i : ℕ) (x : SignedExpr) → i < length xs → x ≡ get_or xs i x
+    → EachGrowthStands names w ((os ++ rest_occurrences w.active (map (signed_of names.0) (take i xs))) ++ occurrences w.active (expression_back names.0 x.expr.now) x.minus []) gs
+    → EachGrowthStands names w (os ++ rest_occurrences w.active (map (signed_of names.0) (take (i + 1) xs))) gs
+grown_more names w os gs xs i x l g h =
+    grown_rest names w os gs (map (signed_of names.0) (take i xs)) (signed_of names.0 x) (map (signed_of names.0) (take (i + 1) xs))
+    (sym (ap (map (signed_of names.0)) (taken_more xs i x l g) ∙ map-append (signed_of names.0) (take i xs) (x ∷ []))) h
 
 pub split_terms : (names : Names) (rs : List Signed) (ts : List TermTree) → SplitTerms names [] rs ts → TermsStand names rs ts
 split_terms names rs ts h = record { back = h.back; fit = h.fit }
@@ -137,12 +144,3 @@ increment_stands names t accessed reduced region outer w slot p e atomic plus on
       steps = o ∙ ap (λ (b : Bool). atomic || b) (m ∙ is_reduced names t accessed reduced region outer w slot p.name s h n);
       growing = g;
     }
-
--- an assignment that has a form has terms
-pub record Termed (names : Names) (p : Designator) (e : Expression) : Type 0 where
-  pub rest : List Signed
-  pub is_rest : increment_terms (is_ring_in names) p e ≡ Some rest
-
-pub termed : (names : Names) (p : Designator) (e : Expression) (form : IncrementForm) → Some form ≡ form_in names p e → Termed names p e
-termed names p e Chain f = let c = chain_is names p e f in record { rest = c.rest; is_rest = c.is_rest }
-termed names p e Sum f = let c = sum_is names p e f in record { rest = c.rest; is_rest = c.is_rest }

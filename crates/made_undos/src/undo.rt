@@ -26,7 +26,7 @@ use fl_base::Items;
 use fl_types::IncrementForm;
 use loop_scopes::Marks;
 use made_growths::{UndoNames, is_active, push_growths};
-use made_steps::{chain_terms, sum_terms};
+use made_steps::split_terms;
 use resolved::{ResolvedExpr, ResolvedPlace, SlotTable};
 use split_trees::{is_marked, split_place};
 use std::alloc::Global;
@@ -91,26 +91,6 @@ fn increment_growths(
     Ok(Some(growths))
 }
 
-/// The terms of an increment of the form.
-fn form_terms(
-    alloc: Global,
-    table: &SlotTable,
-    form: IncrementForm,
-    target: &ResolvedPlace,
-    value: &ResolvedExpr,
-) -> Result<Items<Term>, Memory>
-    requires within { is_within (length table.now.0) value.now ≡ true }
-    requires kinded { is_well_kinded_assignment (names_at (table_site table.now)) (place_back table.now.0 target.now) (expression_back table.now.0 value.now) ≡ true }
-    requires formed { Some form ≡ form_in table.now (place_back table.now.0 target.now) (expression_back table.now.0 value.now) }
-    ensures { IfOk result (λ terms. (rs : List Signed) → increment_terms (is_ring_in table.now) (place_back table.now.0 target.now) (expression_back table.now.0 value.now) ≡ Some rs
-        → TermsStand table.now rs (map term_tree terms)) }
-{
-    match form {
-        IncrementForm::Chain => chain_terms(alloc, table, &[], value, target),
-        IncrementForm::Sum => sum_terms(alloc, table, &[], value, target),
-    }
-}
-
 /// The terms that are taken back, where the target's value is needed.
 fn reversal(
     alloc: Global,
@@ -129,7 +109,7 @@ fn reversal(
     if !is_marked(names.pushed, target.slot) {
         return Ok(None);
     }
-    let terms = form_terms(alloc, table, form, target, value)?;
+    let terms = split_terms(alloc, table, &[], form, target, value)?;
     Ok(Some(terms))
 }
 

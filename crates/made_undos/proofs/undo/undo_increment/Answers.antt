@@ -6,9 +6,9 @@ use Rattle.sweep_trees.specs.Split.{spot_tree}
 use Rattle.sweep_trees.specs.Standing.{is_accessed_at}
 use Rattle.split_trees.proofs.Parts.{place_within}
 use Rattle.undo_steps.specs.UndoSteps.{growth_trees, reversal_tree}
-use Rattle.made_steps.proofs.Stores.{assignment_kinded, place_named}
+use Rattle.made_steps.proofs.Stores.{assignment_kinded, place_named, termed}
 use Rattle.made_growths.specs.Told.{told}
-use Rattle.made_undos.proofs.Terms.{increment_stands, termed}
+use Rattle.made_undos.proofs.Terms.{increment_stands}
 use Rattle.made_undos.proofs.undo.undo_increment.Goals as goal
 
 pub split_place-requires-clause-kinded : goal.split_place-requires-clause-kinded
