@@ -1,4 +1,5 @@
 pub mod AdjointDone
+pub mod CertificateDone
 pub mod CommandsDone
 pub mod Lengths
 pub mod Shown

@@ -9,7 +9,7 @@ use Rattle.meaning.specs.Stops.{at_end}
 use Rattle.dual_meaning.specs.Runs.{stop_of, ticks_of}
 use Rattle.program_stage.specs.Accepted.{IsProgramOf}
 use Rattle.data_stages.specs.Files.{args_in, seed_in, direction_in}
-use Rattle.adjoint_stage.specs.Adjoints.{printed_adjoint}
+use Rattle.certificate_stages.specs.Certificates.{proved_for, printed_shared}
 use Rattle.formad_words.specs.declared.words.Subject.{Subject}
 use Rattle.formad_words.specs.declared.words.Request.{Request}
 use Rattle.formad_words.specs.declared.words.Words.{Words}
@@ -66,7 +66,8 @@ pub record IsTangentOf (files : Files) (program values direction : List ℕ) (te
   pub wrote : directed_text inputs ≡ text
   pub ticked : after ≡ before + ticks_of (directed_meaning inputs)
 
--- the text is that of the adjoint of the program in the file, of the names that are asked for, which are its arguments
+-- the text is that of the adjoint of the program in the file, of the names that are asked for, which are its arguments: with plain
+-- increments where the pairs of their accesses are plain
 pub record HasAdjoint (files : Files) (subject : Subject) (text : List ℕ) : Type 0 where
   pub source : List ℕ
   pub program : Program
@@ -74,13 +75,23 @@ pub record HasAdjoint (files : Files) (subject : Subject) (text : List ℕ) : Ty
   pub accepted : IsProgramOf source program
   pub dependent : list_all (is_ring_argument program) subject.of ≡ true
   pub independent : list_all (is_ring_argument program) subject.wrt ≡ true
-  pub wrote : printed_adjoint program subject.of subject.wrt ≡ text
+  pub wrote : printed_shared program subject.of subject.wrt ≡ text
+
+-- the text is the certificate of the plain pairs of the program in the file, for such names
+pub record HasCertificate (files : Files) (subject : Subject) (text : List ℕ) : Type 0 where
+  pub source : List ℕ
+  pub program : Program
+  pub program_file : files subject.program ≡ Some source
+  pub accepted : IsProgramOf source program
+  pub dependent : list_all (is_ring_argument program) subject.of ≡ true
+  pub independent : list_all (is_ring_argument program) subject.wrt ≡ true
+  pub wrote : proved_for program subject.of subject.wrt ≡ text
 
 -- what is true of a command that is done: no other ones are built yet
 abbrev pub IsDone : Files → Words → List ℕ → (before after : ℕ) → Type 0
 IsDone files (words.Run request) text before after = IsRun files request text before after
 IsDone files (words.Adjoint subject) text before after = HasAdjoint files subject text × (after ≡ before)
-IsDone files (words.Prove subject) text before after = ⊥
+IsDone files (words.Prove subject) text before after = HasCertificate files subject text × (after ≡ before)
 IsDone files (words.Check subject certificate) text before after = ⊥
 IsDone files (words.Report subject) text before after = ⊥
 IsDone files (words.Tangent program values direction) text before after = IsTangentOf files program values direction text before after

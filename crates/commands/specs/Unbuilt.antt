@@ -8,7 +8,7 @@ use Rattle.program_stage.specs.Programs.{subject_stage}
 use Rattle.data_stages.specs.Files.{args_stage, seed_stage}
 use Rattle.data_stages.specs.Later.{unread_stage}
 
--- `prove` and `report`: the program and its names
+-- `report`: the program and its names
 unfoldable pub subject_only : Subject → (List ℕ → Plan) → Plan
 subject_only subject rest = subject_stage subject.program subject.of subject.wrt (λ program. not_built_plan)
 

@@ -6,6 +6,7 @@ mod answer;
 mod directed;
 mod inputs;
 mod outcome;
+mod prove;
 mod run;
 mod stop;
 mod tangent;

@@ -5,6 +5,7 @@ ghost use Rattle.commands.specs.Done.{IsDone};
 ghost use Rattle.commands.specs.Plans.{command_stage};
 
 use crate::adjoint::adjoint;
+use crate::prove::prove;
 use crate::run::run;
 use crate::tangent::tangent;
 use crate::unbuilt::{check, describe, replay};
@@ -29,7 +30,7 @@ pub fn outcome_of<F: Folder, L: Ledger>(
 {
     match words {
         Words::Adjoint(subject) => adjoint(alloc, folder, subject),
-        Words::Prove(subject) => describe(alloc, folder, subject),
+        Words::Prove(subject) => prove(alloc, folder, subject),
         Words::Report(subject) => describe(alloc, folder, subject),
         Words::Check {
             subject,

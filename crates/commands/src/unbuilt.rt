@@ -9,7 +9,7 @@ use outside::Folder;
 use program_stage::{load_subject, not_built};
 use std::alloc::Global;
 
-/// `prove` and `report`, as far as they are built.
+/// `report`, as far as it is built.
 pub(crate) fn describe<F: Folder>(
     alloc: Global,
     folder: &mut F,
