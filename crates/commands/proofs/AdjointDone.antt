@@ -8,13 +8,13 @@ use Rattle.ending.specs.Plan.{Answers, LeadsTo, answered}
 use Rattle.ending.proofs.Done.{answer_done}
 use Rattle.formad_words.specs.declared.words.Subject.{Subject}
 use Rattle.program_stage.proofs.ProgramDone.{subject_done}
-use Rattle.certificate_stages.specs.Certificates.{shared_stage}
+use Rattle.adjoint_stage.specs.Adjoints.{adjoint_stage}
 use Rattle.formad_words.specs.declared.words.Words.{Words}
 use Rattle.formad_words.specs.declared.words.Words.TheVariants.{Adjoint}
 use Rattle.commands.specs.Done.{HasAdjoint, IsDone}
 
-adjoint_done : {files : Files} (subject : Subject) (text : List ℕ) → LeadsTo files (shared_stage subject.program subject.of subject.wrt Answers) Done text → HasAdjoint files subject text
-unfolding shared_stage
+adjoint_done : {files : Files} (subject : Subject) (text : List ℕ) → LeadsTo files (adjoint_stage subject.program subject.of subject.wrt Answers) Done text → HasAdjoint files subject text
+unfolding adjoint_stage
 adjoint_done subject text c =
     let found = subject_done subject.program subject.of subject.wrt _ c refl in
     record {
@@ -28,7 +28,7 @@ adjoint_done subject text c =
     }
 
 pub adjoint_told : {before after : FolderState} (subject : Subject) (result : Result (Vec ℕ Global) Early) →
-    IsStage (λ text. text.items) before after (shared_stage subject.program subject.of subject.wrt) result →
+    IsStage (λ text. text.items) before after (adjoint_stage subject.program subject.of subject.wrt) result →
     IfOk result (λ text. (files : Files) → before.contents ≡ Some files → HasAdjoint files subject text.items)
 adjoint_told subject (Ok text) p = λ files e. adjoint_done subject text.items (p.told files e Answers Done text.items answered)
 adjoint_told subject (Err early) p = tt

@@ -9,7 +9,8 @@ use Rattle.meaning.specs.Stops.{at_end}
 use Rattle.dual_meaning.specs.Runs.{stop_of, ticks_of}
 use Rattle.program_stage.specs.Accepted.{IsProgramOf}
 use Rattle.data_stages.specs.Files.{args_in, seed_in, direction_in}
-use Rattle.certificate_stages.specs.Certificates.{proved_for, printed_shared}
+use Rattle.adjoint_stage.specs.Adjoints.{printed_adjoint}
+use Rattle.certificate_stages.specs.Certificates.{proved_for}
 use Rattle.formad_words.specs.declared.words.Subject.{Subject}
 use Rattle.formad_words.specs.declared.words.Request.{Request}
 use Rattle.formad_words.specs.declared.words.Words.{Words}
@@ -66,8 +67,7 @@ pub record IsTangentOf (files : Files) (program values direction : List ℕ) (te
   pub wrote : directed_text inputs ≡ text
   pub ticked : after ≡ before + ticks_of (directed_meaning inputs)
 
--- the text is that of the adjoint of the program in the file, of the names that are asked for, which are its arguments: with plain
--- increments where the pairs of their accesses are plain
+-- the text is that of the adjoint of the program in the file, of the names that are asked for, which are its arguments
 pub record HasAdjoint (files : Files) (subject : Subject) (text : List ℕ) : Type 0 where
   pub source : List ℕ
   pub program : Program
@@ -75,7 +75,7 @@ pub record HasAdjoint (files : Files) (subject : Subject) (text : List ℕ) : Ty
   pub accepted : IsProgramOf source program
   pub dependent : list_all (is_ring_argument program) subject.of ≡ true
   pub independent : list_all (is_ring_argument program) subject.wrt ≡ true
-  pub wrote : printed_shared program subject.of subject.wrt ≡ text
+  pub wrote : printed_adjoint program subject.of subject.wrt ≡ text
 
 -- the text is the certificate of the plain pairs of the program in the file, for such names
 pub record HasCertificate (files : Files) (subject : Subject) (text : List ℕ) : Type 0 where

@@ -4,7 +4,8 @@ use Rattle.ending.specs.Plan.{Plan, Answers}
 use Rattle.formad_words.specs.declared.words.Words.{Words}
 use Rattle.formad_words.specs.declared.words.Words.TheVariants as words
 use Rattle.program_stage.specs.Lines.{not_built_plan}
-use Rattle.certificate_stages.specs.Certificates.{certificate_stage, shared_stage}
+use Rattle.adjoint_stage.specs.Adjoints.{adjoint_stage}
+use Rattle.certificate_stages.specs.Certificates.{certificate_stage}
 use Rattle.commands.specs.Runs.{run_stage}
 use Rattle.commands.specs.Tangents.{tangent_stage}
 use Rattle.commands.specs.Unbuilt.{subject_only, check_stage, replay_stage}
@@ -14,7 +15,7 @@ unfoldable pub load_stage : (List ℕ → Plan) → Plan
 load_stage rest = not_built_plan
 
 abbrev pub command_stage : Words → (List ℕ → Plan) → Plan
-command_stage (words.Adjoint subject) = shared_stage subject.program subject.of subject.wrt
+command_stage (words.Adjoint subject) = adjoint_stage subject.program subject.of subject.wrt
 command_stage (words.Prove subject) = certificate_stage subject.program subject.of subject.wrt
 command_stage (words.Check subject certificate) = check_stage subject certificate
 command_stage (words.Report subject) = subject_only subject
