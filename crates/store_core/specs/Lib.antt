@@ -8,3 +8,4 @@ pub mod Texts
 pub mod Tapes
 pub mod FlatTapes
 pub mod Stacks
+pub mod Tops

@@ -1,6 +1,7 @@
 ghost use Rattle.std.specs.Prelude.{◌≡◌, ◌∷◌, [], OnOk, OnErr, slice_get, reverse};
 ghost use Rattle.std.specs.Option.{option_copied};
-ghost use Rattle.store_core.specs.Tapes.{Item, word, lists, IsWordOnTop, IsListOnTop, lists_among};
+ghost use Rattle.store_core.specs.Tapes.{Item, word, lists, IsWordOnTop, IsListOnTop, is_list_on_top, top_word, top_list, lower, lists_among};
+ghost use Rattle.store_core.specs.Tops.{IsTop};
 
 use crate::iteration_tapes::IterationTapes;
 use fl_base::Memory;
@@ -12,6 +13,14 @@ use std::marker::Model;
 pub(crate) struct Placed {
     below: usize,
     list: IterationTapes,
+}
+
+/// What is on top of a tape.
+#[derive(Clone, Copy)]
+enum Top {
+    Nothing,
+    Word,
+    List,
 }
 
 /// A stack of what the forward run keeps for the reverse one, seen as the list of its items, the top first.
@@ -82,6 +91,57 @@ impl Tape {
         match self.lists.pop() {
             Some(Placed { below: _, list }) => list,
             None => unreachable!(),
+        }
+    }
+
+    /// Takes what is on top, and gives it where it is a word. 0 where a list is on top, and where there is nothing.
+    pub fn take_word(&mut self) -> u64
+        ensures word { result ≡ top_word self.old }
+        ensures rest { self.new ≡ lower self.old }
+    {
+        match self.top() {
+            Top::Nothing => 0,
+            Top::Word => self.pop(),
+            Top::List => {
+                self.take_list();
+                0
+            }
+        }
+    }
+
+    /// Takes what is on top, and gives it where it is a list. None where a word is on top, and where there is nothing.
+    pub fn take_any(&mut self) -> Option<IterationTapes>
+        ensures list { result ≡ top_list self.old }
+        ensures rest { self.new ≡ lower self.old }
+    {
+        match self.top() {
+            Top::Nothing => None,
+            Top::Word => {
+                self.pop();
+                None
+            }
+            Top::List => Some(self.take_list()),
+        }
+    }
+
+    fn top(&self) -> Top
+        ensures { IsTop result self.now }
+    {
+        if self.has_list_on_top() {
+            Top::List
+        } else if self.words.as_slice().is_empty() {
+            Top::Nothing
+        } else {
+            Top::Word
+        }
+    }
+
+    fn has_list_on_top(&self) -> bool
+        ensures { result ≡ is_list_on_top self.now }
+    {
+        match self.lists.last() {
+            None => false,
+            Some(placed) => placed.below == self.words.as_slice().len(),
         }
     }
 
