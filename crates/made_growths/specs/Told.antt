@@ -18,11 +18,11 @@ abbrev pub told : UndoNames → Told
 told n = record { pushed = n.pushed.now; active = n.active.now; choices = n.choices.now; shared = n.shared }
 
 abbrev pub choice_or : Option Choice → Choice
-choice_or None = choice.Shared
+choice_or None = choice.Atomic
 choice_or (Some c) = c
 
 abbrev pub in_row : Option (List Choice) → ℕ → Choice
-in_row None slot = choice.Shared
+in_row None slot = choice.Atomic
 in_row (Some row) slot = choice_or (slice_get row slot)
 
 -- how the adjoint of a slot's name is incremented in the parallel loop with a number

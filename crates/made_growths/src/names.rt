@@ -15,7 +15,7 @@ pub struct UndoNames<'a> {
     pub pushed: &'a [bool],
     /// Which have adjoints.
     pub active: &'a [bool],
-    /// How adjoints are incremented in the parallel loop of each number. Where nothing is told it is `Shared`.
+    /// How adjoints are incremented in the parallel loop of each number. Where nothing is told it is `Atomic`.
     pub choices: &'a [Items<Choice>],
     /// The number of places that have cells. Places of an iteration's own come after them.
     pub shared: u32,
@@ -33,7 +33,7 @@ fn in_row(row: &[Choice], slot: usize) -> Choice
 {
     match row.get(slot) {
         Some(choice) => *choice,
-        None => Choice::Shared,
+        None => Choice::Atomic,
     }
 }
 
@@ -43,7 +43,7 @@ pub fn choice_in(names: &UndoNames<'_>, number: u32, slot: usize) -> Choice
 {
     match names.choices.get(number as usize) {
         Some(row) => in_row(row.as_slice(), slot),
-        None => Choice::Shared,
+        None => Choice::Atomic,
     }
 }
 

@@ -34,10 +34,10 @@ row_1 : choice_in t 2 1 ≡ Atomic
 row_1 = refl
 
 -- where nothing is told
-row_2 : choice_in t 2 2 ≡ Shared
+row_2 : choice_in t 2 2 ≡ Atomic
 row_2 = refl
 
-row_3 : choice_in t 3 0 ≡ Shared
+row_3 : choice_in t 3 0 ≡ Atomic
 row_3 = refl
 
 row_4 : choice_here t None 0 ≡ Shared

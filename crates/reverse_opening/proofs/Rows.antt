@@ -8,10 +8,11 @@ use Rattle.fl_types.specs.declared.choice.Choice.{Choice}
 use Rattle.fl_types.specs.declared.choice.Chosen.{Chosen}
 use Rattle.fl_types.specs.Sharing.{has_name}
 use Rattle.store_core.specs.declared.layout.Shape.{Shape}
-use Rattle.adjoint_rules.specs.Scopes.{is_atomic, is_reduction, has_choice}
+use Rattle.adjoint_rules.specs.Scopes.{is_reduction, has_choice}
+use Rattle.loop_choices.specs.Choosing.{is_shared, choice_by, choice_in}
 use Rattle.resolved.specs.ResolvedExprs.{slot_name}
 use Rattle.made_growths.specs.Told.{choice_or, in_row}
-use Rattle.reverse_opening.specs.Chosen.{choice_by, made_choice, names_if, names_in, row_in, count_in, rows_below}
+use Rattle.reverse_opening.specs.Chosen.{names_if, names_in, row_in, count_in, rows_below}
 
 -- ---- names
 
@@ -38,7 +39,7 @@ has_listed passes x (c ∷ cs) number = has_if (nat_eq c.loop_number number) (pa
 -- ---- rows
 
 abbrev row_for : List Shape → List Chosen → ℕ → List Choice
-row_for shapes cs n = row_in shapes (names_in is_reduction cs n) (names_in is_atomic cs n)
+row_for shapes cs n = row_in shapes (names_in is_reduction cs n) (names_in is_shared cs n)
 
 get_front : {A : Type 0} (xs ys : List A) (k : ℕ) (r : A) → slice_get xs k ≡ Some r → slice_get (xs ++ ys) k ≡ Some r
 get_front [] ys k r e = absurd (cc)
@@ -64,8 +65,8 @@ get_row shapes cs n k false e h =
     subst (λ (j : ℕ). slice_get (rows_below shapes cs (suc n)) k ≡ Some (row_for shapes cs j)) (sym last)
     (get_end (rows_below shapes cs n) (row_for shapes cs n) k (last ∙ sym (rows_long shapes cs n)))
 
-at_slot : (collected stepped : List (List ℕ)) (shapes : List Shape) (slot : ℕ) → slot < length shapes
-    → choice_or (slice_get (row_in shapes collected stepped) slot) ≡ choice_by (has_name (slot_name shapes slot) collected) (has_name (slot_name shapes slot) stepped)
+at_slot : (collected shared : List (List ℕ)) (shapes : List Shape) (slot : ℕ) → slot < length shapes
+    → choice_or (slice_get (row_in shapes collected shared) slot) ≡ choice_by (has_name (slot_name shapes slot) collected) (has_name (slot_name shapes slot) shared)
 at_slot xs ys [] slot h = absurd (omega (arith, h))
 at_slot xs ys (s ∷ ss) zero h = refl
 at_slot xs ys (s ∷ ss) (suc k) h = at_slot xs ys ss k (omega (arith, h))
@@ -86,21 +87,21 @@ none_beyond passes (c ∷ cs) number x h =
 two : (a b c d : Bool) → a ≡ b → c ≡ d → choice_by a c ≡ choice_by b d
 two a b c d e f = ap (λ x. choice_by x c) e ∙ ap (choice_by b) f
 
-within : (shapes : List Shape) (cs : List Chosen) (n number slot : ℕ) → number < n → slot < length shapes → made_choice cs number (slot_name shapes slot) ≡ in_row (slice_get (rows_below shapes cs n) number) slot
+within : (shapes : List Shape) (cs : List Chosen) (n number slot : ℕ) → number < n → slot < length shapes → choice_in cs number (slot_name shapes slot) ≡ in_row (slice_get (rows_below shapes cs n) number) slot
 within shapes cs zero number slot k h = absurd (omega (arith, k))
 within shapes cs (suc n) number slot k h =
     let x = slot_name shapes slot in
-    two _ _ _ _ (sym (has_listed is_reduction x cs number)) (sym (has_listed is_atomic x cs number))
-    ∙ (sym (at_slot (names_in is_reduction cs number) (names_in is_atomic cs number) shapes slot h) ∙ ap (λ row. in_row row slot) (sym (get_row shapes cs n number (nat_lt number n) refl k)))
+    two _ _ _ _ (sym (has_listed is_reduction x cs number)) (sym (has_listed is_shared x cs number))
+    ∙ (sym (at_slot (names_in is_reduction cs number) (names_in is_shared cs number) shapes slot h) ∙ ap (λ row. in_row row slot) (sym (get_row shapes cs n number (nat_lt number n) refl k)))
 
-beyond : (shapes : List Shape) (cs : List Chosen) (number slot : ℕ) → count_in cs ≤ number → made_choice cs number (slot_name shapes slot) ≡ in_row (slice_get (rows_below shapes cs (count_in cs)) number) slot
+beyond : (shapes : List Shape) (cs : List Chosen) (number slot : ℕ) → count_in cs ≤ number → choice_in cs number (slot_name shapes slot) ≡ in_row (slice_get (rows_below shapes cs (count_in cs)) number) slot
 beyond shapes cs number slot k =
     let long = rows_long shapes cs (count_in cs) in
     let x = slot_name shapes slot in
-    two _ _ _ _ (none_beyond is_reduction cs number x k) (none_beyond is_atomic cs number x k)
+    two _ _ _ _ (none_beyond is_reduction cs number x k) (none_beyond is_shared cs number x k)
     ∙ ap (λ row. in_row row slot) (sym (slice_get_past (rows_below shapes cs (count_in cs)) number (omega (arith, long, k))))
 
 pub rows_are : (shapes : List Shape) (cs : List Chosen) (number slot : ℕ) (b : Bool) → nat_lt number (count_in cs) ≡ b → slot < length shapes →
-    made_choice cs number (slot_name shapes slot) ≡ in_row (slice_get (rows_below shapes cs (count_in cs)) number) slot
+    choice_in cs number (slot_name shapes slot) ≡ in_row (slice_get (rows_below shapes cs (count_in cs)) number) slot
 rows_are shapes cs number slot true e h = within shapes cs (count_in cs) number slot (grind (arith, nat_tests)) h
 rows_are shapes cs number slot false e h = beyond shapes cs number slot (grind (arith, nat_tests))

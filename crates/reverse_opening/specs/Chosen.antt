@@ -1,28 +1,21 @@
 -- How adjoints are incremented in each parallel loop, by name and by slot.
-use Rattle.std.specs.Prelude.{◌≡◌, ℕ, zero, suc, ◌+◌, max, ◌&&◌, nat_eq, Bool, if◌then◌else◌, List, [], ◌∷◌, ◌++◌, map}
+use Rattle.std.specs.Prelude.{◌≡◌, ℕ, zero, suc, ◌+◌, max, ◌&&◌, nat_eq, Bool, List, [], ◌∷◌, ◌++◌, map}
 use Rattle.fl_ast.specs.Tree.{Subroutine}
 use Rattle.fl_types.specs.declared.choice.Choice.{Choice}
-use Rattle.fl_types.specs.declared.choice.Choice.TheVariants.{Shared, Atomic, Reduction}
 use Rattle.fl_types.specs.declared.choice.Chosen.{Chosen}
 use Rattle.fl_types.specs.Sharing.{has_name}
 use Rattle.store_core.specs.declared.layout.Shape.{Shape}
-use Rattle.adjoint_rules.specs.Scopes.{is_atomic, is_reduction, has_choice}
+use Rattle.adjoint_rules.specs.Scopes.{is_reduction}
+use Rattle.loop_choices.specs.Choosing.{is_shared, choice_by, choice_in}
 use Rattle.resolved.specs.SlotTables.{Names, names_of}
 use Rattle.transposition.specs.Worlds.{World}
 use Rattle.transposition.specs.Programs.{program_world}
 use Rattle.undo_steps.specs.UndoSteps.{UndoTrees}
 use Rattle.undo_steps.specs.UndosStand.{AllUndoStand}
 
-abbrev pub choice_by : (collected stepped : Bool) → Choice
-choice_by collected stepped = if collected then Reduction else if stepped then Atomic else Shared
-
--- the choice for a name in the loop with a number, Shared where none is made
-abbrev pub made_choice : List Chosen → ℕ → List ℕ → Choice
-made_choice choices number x = choice_by (has_choice is_reduction choices number x) (has_choice is_atomic choices number x)
-
 -- the world of a program for these choices
 abbrev pub chosen_world : Subroutine → List Shape → (pushed active : List ℕ → Bool) → List Chosen → World
-chosen_world p shapes pushed active choices = program_world p shapes pushed active (made_choice choices)
+chosen_world p shapes pushed active choices = program_world p shapes pushed active (choice_in choices)
 
 -- the names of a program, and statements that undo the program's in its world
 pub record IsUndone (p : Subroutine) (shapes : List Shape) (pushed active : List ℕ → Bool) (choices : List Chosen) (names : Names) (us : UndoTrees) : Type 0 where
@@ -39,8 +32,8 @@ abbrev pub names_in : (Choice → Bool) → List Chosen → ℕ → List (List �
 names_in passes [] number = []
 names_in passes (c ∷ cs) number = names_if (nat_eq c.loop_number number && passes c.choice) c.name (names_in passes cs number)
 
-abbrev pub row_in : List Shape → (collected stepped : List (List ℕ)) → List Choice
-row_in shapes collected stepped = map (λ (s : Shape). choice_by (has_name s.name collected) (has_name s.name stepped)) shapes
+abbrev pub row_in : List Shape → (collected shared : List (List ℕ)) → List Choice
+row_in shapes collected shared = map (λ (s : Shape). choice_by (has_name s.name collected) (has_name s.name shared)) shapes
 
 -- more than the number of any loop for which there is a choice
 abbrev pub count_in : List Chosen → ℕ
@@ -50,4 +43,4 @@ count_in (c ∷ cs) = max (c.loop_number + 1) (count_in cs)
 -- the choices in the loops whose numbers are below n
 abbrev pub rows_below : List Shape → List Chosen → ℕ → List (List Choice)
 rows_below shapes choices zero = []
-rows_below shapes choices (suc n) = rows_below shapes choices n ++ row_in shapes (names_in is_reduction choices n) (names_in is_atomic choices n) ∷ []
+rows_below shapes choices (suc n) = rows_below shapes choices n ++ row_in shapes (names_in is_reduction choices n) (names_in is_shared choices n) ∷ []

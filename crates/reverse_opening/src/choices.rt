@@ -2,10 +2,11 @@
 
 ghost use Rattle.std.specs.Prelude.{◌≡◌, ◌<◌, ◌&&◌, nat_eq, ℕ, length, IfOk, slice_get};
 ghost use Rattle.fl_types.specs.Sharing.{has_name as has_name_lem};
-ghost use Rattle.adjoint_rules.specs.Scopes.{is_atomic as is_atomic_lem, is_reduction as is_reduction_lem};
+ghost use Rattle.adjoint_rules.specs.Scopes.{is_reduction as is_reduction_lem};
+ghost use Rattle.loop_choices.specs.Choosing.{is_shared as is_shared_lem, choice_by as choice_by_lem, choice_in};
 ghost use Rattle.resolved.specs.ResolvedExprs.{slot_name};
 ghost use Rattle.made_growths.specs.Told.{in_row};
-ghost use Rattle.reverse_opening.specs.Chosen.{choice_by as choice_by_lem, made_choice, names_in, row_in, count_in};
+ghost use Rattle.reverse_opening.specs.Chosen.{names_in, row_in, count_in};
 
 use fl_ast::Name;
 use fl_base::{Items, Memory};
@@ -22,12 +23,12 @@ fn is_reduction(choice: Choice) -> bool
     }
 }
 
-fn is_atomic(choice: Choice) -> bool
-    ensures { result ≡ is_atomic_lem choice }
+fn is_shared(choice: Choice) -> bool
+    ensures { result ≡ is_shared_lem choice }
 {
     match choice {
-        Choice::Atomic => true,
-        Choice::Reduction | Choice::Shared => false,
+        Choice::Shared => true,
+        Choice::Reduction | Choice::Atomic => false,
     }
 }
 
@@ -43,10 +44,10 @@ fn is_collected(entry: &Chosen, number: usize) -> bool
     entry.loop_number as usize == number && is_reduction(entry.choice)
 }
 
-fn is_stepped(entry: &Chosen, number: usize) -> bool
-    ensures { result ≡ (nat_eq entry.now.loop_number number && is_atomic_lem entry.now.choice) }
+fn is_left_shared(entry: &Chosen, number: usize) -> bool
+    ensures { result ≡ (nat_eq entry.now.loop_number number && is_shared_lem entry.now.choice) }
 {
-    entry.loop_number as usize == number && is_atomic(entry.choice)
+    entry.loop_number as usize == number && is_shared(entry.choice)
 }
 
 /// The names whose adjoints are collected in the loop with a number.
@@ -62,28 +63,28 @@ fn collected(alloc: Global, entries: &[Chosen], number: usize) -> Result<Items<N
     Ok(names)
 }
 
-/// The names whose adjoints are incremented in one step there.
-fn stepped(alloc: Global, entries: &[Chosen], number: usize) -> Result<Items<Name>, Memory>
-    ensures { IfOk result (λ names. names ≡ names_in is_atomic_lem entries.now number) }
+/// The names whose adjoints are incremented as those of shared names there.
+fn shared(alloc: Global, entries: &[Chosen], number: usize) -> Result<Items<Name>, Memory>
+    ensures { IfOk result (λ names. names ≡ names_in is_shared_lem entries.now number) }
 {
     let mut names = Items::new(alloc);
     for entry in entries {
-        if is_stepped(entry, number) {
+        if is_left_shared(entry, number) {
             names.push(entry.name.clone(alloc)?)?;
         }
     }
     Ok(names)
 }
 
-fn choice_by(collected: bool, stepped: bool) -> Choice
-    ensures { result ≡ choice_by_lem collected stepped }
+fn choice_by(collected: bool, shared: bool) -> Choice
+    ensures { result ≡ choice_by_lem collected shared }
 {
     if collected {
         Choice::Reduction
-    } else if stepped {
-        Choice::Atomic
-    } else {
+    } else if shared {
         Choice::Shared
+    } else {
+        Choice::Atomic
     }
 }
 
@@ -91,15 +92,15 @@ fn row_of(
     alloc: Global,
     shapes: &[Shape],
     collected: &[Name],
-    stepped: &[Name],
+    shared: &[Name],
 ) -> Result<Items<Choice>, Memory>
-    ensures { IfOk result (λ row. row ≡ row_in shapes.now collected.now stepped.now) }
+    ensures { IfOk result (λ row. row ≡ row_in shapes.now collected.now shared.now) }
 {
     let mut row = Items::new(alloc);
     for shape in shapes {
         let is_collected = has_name(collected, &shape.name);
-        let is_stepped = has_name(stepped, &shape.name);
-        row.push(choice_by(is_collected, is_stepped))?;
+        let is_shared = has_name(shared, &shape.name);
+        row.push(choice_by(is_collected, is_shared))?;
     }
     Ok(row)
 }
@@ -111,11 +112,11 @@ fn row_for(
     entries: &[Chosen],
     number: usize,
 ) -> Result<Items<Choice>, Memory>
-    ensures { IfOk result (λ row. row ≡ row_in shapes.now (names_in is_reduction_lem entries.now number) (names_in is_atomic_lem entries.now number)) }
+    ensures { IfOk result (λ row. row ≡ row_in shapes.now (names_in is_reduction_lem entries.now number) (names_in is_shared_lem entries.now number)) }
 {
     let collected = collected(alloc, entries, number)?;
-    let stepped = stepped(alloc, entries, number)?;
-    row_of(alloc, shapes, collected.as_slice(), stepped.as_slice())
+    let shared = shared(alloc, entries, number)?;
+    row_of(alloc, shapes, collected.as_slice(), shared.as_slice())
 }
 
 /// More than the number of any loop for which there is a choice.
@@ -136,7 +137,7 @@ pub(crate) fn rows_of(
     entries: &[Chosen],
 ) -> Result<Items<Items<Choice>>, Memory>
     ensures { IfOk result (λ rows. (number slot : ℕ) → slot < length shapes.now
-        → made_choice entries.now number (slot_name shapes.now slot) ≡ in_row (slice_get rows number) slot) }
+        → choice_in entries.now number (slot_name shapes.now slot) ≡ in_row (slice_get rows number) slot) }
 {
     let mut rows = Items::new(alloc);
     for number in 0..count_of(entries) {

@@ -25,7 +25,7 @@ pub struct Undoing {
 }
 
 /// The statements that undo a program's, whose forward sweep pushes the old contents of the needed names. A name for which there is no
-/// choice in a loop is taken as Shared there: it has to be the iteration's own.
+/// choice in a loop is taken as Atomic there.
 pub fn open_reverse(
     alloc: Global,
     typed: &Typed,

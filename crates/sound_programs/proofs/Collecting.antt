@@ -24,7 +24,8 @@ use Rattle.adjoint_choices.specs.Choosing.{is_of, grows, grows_in, grows_in_arms
 use Rattle.adjoint_sets.specs.Names.{is_active}
 use Rattle.transposition.specs.Worlds.{is_one_step}
 use Rattle.typing.proofs.Faultless.{Clean, apart}
-use Rattle.sound_programs.specs.Uses.{is_own, is_shared, choice_in, AreFitting}
+use Rattle.loop_choices.specs.Choosing.{is_shared, choice_in}
+use Rattle.sound_programs.specs.Uses.{is_own, AreFitting}
 use Rattle.sound_programs.specs.Accepted.{IsAccepted, made_choices, MadeChoicesFit, ParallelLoopsFit}
 use Rattle.sound_programs.proofs.Lists.{at_test, never, fails, no_not, not_yes, or_to, same_name, Each, each_left, each_right}
 use Rattle.sound_programs.proofs.NameReads.{Parts, OfIncrement, increment_parts}

@@ -11,7 +11,8 @@ use Rattle.meaning.proofs.Small.{one, name, at, into, ◌plus◌, ◌times◌, o
 use Rattle.transposition.specs.Worlds.{World}
 use Rattle.transposition.specs.Law.{Use}
 use Rattle.transposition.specs.Sound.{SoundAll}
-use Rattle.sound_programs.specs.Uses.{keeps_variables, choice_in}
+use Rattle.loop_choices.specs.Choosing.{choice_in}
+use Rattle.sound_programs.specs.Uses.{keeps_variables}
 use Rattle.sound_programs.proofs.Lists.{never}
 
 abbrev i : List ℕ

@@ -29,7 +29,8 @@ use Rattle.transposition.specs.Calms.{AreFlat, PairwiseAll}
 use Rattle.transposition.specs.Sound.{SoundAll}
 use Rattle.transposition.specs.Programs.{program_world}
 use Rattle.transposition.specs.Answer.{reverse_run}
-use Rattle.sound_programs.specs.Uses.{is_own, outer_use, all_keep_variables, AreFitting, choice_in}
+use Rattle.sound_programs.specs.Uses.{is_own, outer_use, all_keep_variables, AreFitting}
+use Rattle.loop_choices.specs.Choosing.{choice_in}
 
 -- a program that some text reads as, and that typing doesn't refuse, with names that may be asked of and by
 pub record IsAccepted (p : Program) (of wrt : List (List ℕ)) : Type 0 where

@@ -1,16 +1,14 @@
 -- The names of a program as the law of transposition speaks of them, and what it asks of clauses and choices.
-use Rattle.std.specs.Prelude.{◌≡◌, ℕ, Bool, true, false, not, ◌&&◌, if◌then◌else◌, List, [], map}
+use Rattle.std.specs.Prelude.{◌≡◌, ℕ, Bool, true, false, not, ◌&&◌, List, [], map}
 use Rattle.std.specs.List.{list_all}
 use Rattle.fl_ast.specs.declared.stmt.Program.{Program}
 use Rattle.fl_ast.specs.Tree.{stmt_trees}
 use Rattle.fl_types.specs.declared.choice.Choice.{Choice}
-use Rattle.fl_types.specs.declared.choice.Choice.TheVariants.{Shared, Atomic, Reduction}
-use Rattle.fl_types.specs.declared.choice.Chosen.{Chosen}
 use Rattle.fl_types.specs.Sharing.{has_name, assigns_in, ParallelLoop, loops_of_all}
 use Rattle.store_core.specs.Scopes.{scopes_in}
 use Rattle.reachability.specs.Reached.{IsAmong}
 use Rattle.activity.specs.Active.{program_flows, turned}
-use Rattle.adjoint_rules.specs.Scopes.{is_reduction, has_choice}
+use Rattle.adjoint_rules.specs.Scopes.{is_reduction}
 use Rattle.adjoint_choices.specs.Choosing.{is_scalar_name}
 use Rattle.adjoint_sets.specs.Reach.{is_reached_name}
 use Rattle.adjoint_sets.specs.Names.{is_active, is_needed}
@@ -54,14 +52,3 @@ abbrev pub AreFitting : Program → (active : List ℕ → Bool) → (ℕ → Li
 AreFitting p active choices =
     (l : ParallelLoop) → IsAmong (loops_of_all [] (stmt_trees p.body)) l → (x : List ℕ) → active x ≡ true
     → is_reduction (choices l.number x) ≡ true → IsCollectable p l x
-
-abbrev pub is_shared : Choice → Bool
-is_shared Shared = true
-is_shared Atomic = false
-is_shared Reduction = false
-
--- The choice for a name in the loop with a number. Where none is made, none of the increments of the name's adjoint is on a cell that
--- iterations share, so that one step is as good as two.
-abbrev pub choice_in : List Chosen → ℕ → List ℕ → Choice
-choice_in choices number x = if has_choice is_reduction choices number x then Reduction else if has_choice is_shared choices number x then
-    Shared else Atomic

@@ -1,0 +1,2 @@
+//! How adjoints are incremented in each parallel loop, from a list of choices.
+#![tactic(auto)]
