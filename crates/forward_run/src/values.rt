@@ -47,7 +47,8 @@ pub fn final_values(
     layout: &Layout,
     cells: &[Option<Value>],
 ) -> Result<Vec<u64>, Memory>
-    ensures { (p : Subroutine) (pushed : List ℕ → Bool) (words : List ℕ) → values_out (meaning p layout.now pushed words []).out ≡ Ok cells.now
+    ensures first { IfOk result (λ values. values.items ≡ map word_of (take (length (keys_of layout.now)) cells.now)) }
+    ensures meant { (p : Subroutine) (pushed : List ℕ → Bool) (words : List ℕ) → values_out (meaning p layout.now pushed words []).out ≡ Ok cells.now
         → IfOk result (λ values. values.items ≡ final_words p layout.now words) }
 {
     words_of(alloc, front(cells, layout.count() as usize))
