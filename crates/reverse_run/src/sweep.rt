@@ -7,8 +7,9 @@ use crate::statements::undo_all;
 use fl_base::Memory;
 use operations::Cells;
 use resolved::SlotTable;
-use reverse_state::{BackTape, Reverse};
+use reverse_state::Reverse;
 use std::alloc::Global;
+use store_core::Tape;
 use undo_steps::UndoStep;
 
 /// The cells after all statements of a program are undone, from the tape that a forward sweep left and the cells after it: for each
@@ -20,7 +21,7 @@ pub fn sweep_back<C: Cells + Drop>(
     cells: C,
     shared: u32,
     own: usize,
-    tape: BackTape,
+    tape: Tape,
 ) -> Result<C, Memory>
     requires few { shared ≤ 1048576 }
     requires doubled { length (C.cells cells) ≡ shared + shared }

@@ -1,17 +1,27 @@
 -- What is taken from the top of a tape.
-use Rattle.std.specs.Prelude.{◌≡◌, ◌≤◌, ◌<◌, ◌-◌, ℕ, zero, suc, List, [], ◌∷◌, ◌++◌, length, map, Option, Some, None, take, slice_index, slice_index_or, refl}
+use Rattle.std.specs.Prelude.{◌≡◌, ◌≤◌, ◌<◌, ◌-◌, ℕ, zero, suc, List, [], ◌∷◌, ◌++◌, length, Option, Some, None, take, slice_index, slice_index_or, refl}
 use Rattle.std.proofs.Common.{ap, sym, ◌∙◌, arith}
-use Rattle.std.proofs.lemmas.List.{reverse-append}
-use Rattle.store_core.specs.Tapes.{Item, IterationLists}
-use Rattle.transposition.specs.Tapes.{Tape, empty, word, Tapes, tape_at, top, rest}
+use Rattle.store_core.specs.Tapes.{Item, lists, IterationLists, top_word, top_list, lower}
+use Rattle.store_core.specs.Tapes.{word as word_item}
+use Rattle.transposition.specs.Tapes.{Tape, empty, word, Tapes, tape_at, top, rest, top_tapes}
 use Rattle.forward_law.specs.Forward.{words_on, tapes_back, tape_back}
-use Rattle.reverse_state.specs.declared.back_tape.TapeItem.{TapeItem}
 use Rattle.reverse_state.specs.declared.reading.Iterations.{Iterations}
-use Rattle.reverse_state.specs.Reading.{item_of, items_of, lists_back, TapeReading, around_by, around_of, inside_of, words_of, words_left, AreWithin, TakesWord}
+use Rattle.reverse_state.specs.Reading.{lists_back, TapeReading, around_by, around_of, inside_of, words_of, words_left, AreWithin, TakesWord}
 
--- the newest item is on top
-pub items_more : (is : List TapeItem) (i : TapeItem) → items_of (is ++ i ∷ []) ≡ item_of i ∷ items_of is
-items_more is i = ap (λ js. map item_of js) (reverse-append is (i ∷ []))
+pub top_back : (items : List Item) → top (tape_back items) ≡ top_word items
+top_back [] = refl
+top_back (word_item w ∷ items) = refl
+top_back (lists l ∷ items) = refl
+
+pub rest_back : (items : List Item) → rest (tape_back items) ≡ tape_back (lower items)
+rest_back [] = refl
+rest_back (word_item w ∷ items) = refl
+rest_back (lists l ∷ items) = refl
+
+pub tapes_on_top : (items : List Item) → top_tapes (tape_back items) ≡ lists_back (top_list items)
+tapes_on_top [] = refl
+tapes_on_top (word_item w ∷ items) = refl
+tapes_on_top (lists l ∷ items) = refl
 
 pub words_more : (ws : List ℕ) (w : ℕ) (t : Tape) → words_on (ws ++ w ∷ []) t ≡ word w (words_on ws t)
 words_more [] w t = refl

@@ -1,24 +1,9 @@
 -- The tape as a reverse sweep reads it.
-use Rattle.std.specs.Prelude.{◌≡◌, ◌≤◌, ℕ, List, [], ◌∷◌, length, map, reverse, Option, Some, None, take, slice_index_or}
-use Rattle.store_core.specs.Tapes.{Item, word, lists, IterationLists}
+use Rattle.std.specs.Prelude.{◌≡◌, ◌≤◌, ℕ, List, [], length, Option, Some, None, take, slice_index_or}
+use Rattle.store_core.specs.Tapes.{Item, IterationLists}
 use Rattle.transposition.specs.Tapes.{Tape, empty, Tapes, none, top, rest}
 use Rattle.forward_law.specs.Forward.{words_on, tapes_back, tape_back}
-use Rattle.reverse_state.specs.declared.back_tape.TapeItem.{TapeItem}
-use Rattle.reverse_state.specs.declared.back_tape.TapeItem.TheVariants as item
 use Rattle.reverse_state.specs.declared.reading.Iterations.{Iterations}
-
--- the items of a tape, the newest last
-abbrev pub item_of : TapeItem → Item
-item_of (item.Word w) = word w
-item_of (item.Lists l) = lists l
-
-abbrev pub items_of : List TapeItem → List Item
-items_of is = map item_of (reverse is)
-
--- the items below the one on top
-abbrev pub lower : List Item → List Item
-lower [] = []
-lower (i ∷ is) = is
 
 -- the tapes of iterations, none where there are none
 abbrev pub lists_back : Option IterationLists → Tapes

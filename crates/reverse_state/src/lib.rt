@@ -1,11 +1,9 @@
 //! What a reverse sweep has at hand while it runs on one thread: cells, an iteration's own words, sums, and the tape that it reads.
 #![tactic(auto)]
 
-mod back_tape;
 mod reading;
 mod reverse;
 mod sums;
 mod words;
 
-pub use back_tape::BackTape;
 pub use reverse::Reverse;

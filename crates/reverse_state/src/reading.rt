@@ -1,17 +1,15 @@
 ghost use Rattle.std.specs.Prelude.{◌≡◌, ◌<◌, ◌≤◌, length, None, Some, Option, List, slice_index};
-ghost use Rattle.transposition.specs.Tapes.{Tape, Tapes, tape_at, rest, top, top_tapes};
+ghost use Rattle.transposition.specs.Tapes.{Tape as TapeTree, Tapes, tape_at, rest, top, top_tapes};
 ghost use Rattle.forward_law.specs.Forward.{tape_back};
-ghost use Rattle.reverse_state.specs.Reading.{now_of, around_of, words_of as words_of_lem, AreWithin, Takes, TakesWord};
+ghost use Rattle.reverse_state.specs.Reading.{lists_back, now_of, around_of, words_of as words_of_lem, AreWithin, Takes, TakesWord};
 
-use crate::back_tape::BackTape;
-use fl_base::Boxed;
 use std::marker::Model;
-use store_core::IterationTapes;
+use store_core::{IterationTapes, Tape};
 
 /// The tapes of a parallel loop's iterations, and how many words are left of the one that is read. No word is copied.
 #[derive(Drop)]
 pub(crate) struct Iterations {
-    tapes: Option<Boxed<IterationTapes>>,
+    tapes: Option<IterationTapes>,
     iteration: u128,
     left: usize,
 }
@@ -19,7 +17,7 @@ pub(crate) struct Iterations {
 /// A tape that is read downwards, in a parallel loop that of an iteration.
 #[derive(Drop)]
 pub(crate) struct Reading {
-    tape: BackTape,
+    tape: Tape,
     inside: Option<Iterations>,
 }
 
@@ -33,14 +31,29 @@ impl Model for Reading {
     ghost invariant = { λ r. IsWithin r.inside };
 }
 
+/// Takes the word on top of a tape.
+fn word_from(tape: &mut Tape) -> u64
+    ensures word { result ≡ top (tape_back tape.old) }
+    ensures rest { tape_back tape.new ≡ rest (tape_back tape.old) }
+{
+    tape.take_word()
+}
+
+/// Takes the tapes of iterations on top of a tape.
+fn tapes_from(tape: &mut Tape) -> Option<IterationTapes>
+    ensures tapes { lists_back result ≡ top_tapes (tape_back tape.old) }
+    ensures rest { tape_back tape.new ≡ rest (tape_back tape.old) }
+{
+    tape.take_any()
+}
+
 /// The words of an iteration.
-fn words_of(tapes: &Option<Boxed<IterationTapes>>, iteration: u128) -> &[u64]
+fn words_of(tapes: &Option<IterationTapes>, iteration: u128) -> &[u64]
     ensures { result.now ≡ words_of_lem tapes.now iteration }
 {
     match tapes {
         None => &[],
         Some(tapes) => {
-            let tapes = tapes.get();
             if iteration < tapes.count() as u128 {
                 tapes.tape(iteration as usize)
             } else {
@@ -78,7 +91,7 @@ fn begin_words(inside: &mut Iterations, iteration: u128)
 }
 
 impl Reading {
-    pub fn of(tape: BackTape) -> Reading
+    pub fn of(tape: Tape) -> Reading
         ensures { result ≡ record { items = tape; inside = None } }
     {
         Reading { tape, inside: None }
@@ -89,7 +102,7 @@ impl Reading {
         ensures { Takes self.old self.new result }
     {
         match &mut self.inside {
-            None => self.tape.pop(),
+            None => word_from(&mut self.tape),
             Some(inside) => next_word(inside),
         }
     }
@@ -99,7 +112,7 @@ impl Reading {
         requires { around_of self.old ≡ None }
         ensures { around_of self.new ≡ Some (top_tapes (now_of self.old), rest (now_of self.old)) }
     {
-        let tapes = self.tape.take_list();
+        let tapes = tapes_from(&mut self.tape);
         self.inside = Some(Iterations {
             tapes,
             iteration: 0,
@@ -110,7 +123,7 @@ impl Reading {
     /// Reads the tape of an iteration from its top on.
     pub fn begin(&mut self, iteration: u128)
         ensures around { around_of self.new ≡ around_of self.old }
-        ensures now { (a : Tapes × Tape) → around_of self.old ≡ Some a → now_of self.new ≡ tape_at a.0 iteration }
+        ensures now { (a : Tapes × TapeTree) → around_of self.old ≡ Some a → now_of self.new ≡ tape_at a.0 iteration }
     {
         match &mut self.inside {
             None => {}
@@ -121,7 +134,7 @@ impl Reading {
     /// Goes on below the tapes of iterations.
     pub fn leave(&mut self)
         ensures around { around_of self.new ≡ None }
-        ensures now { (a : Tapes × Tape) → around_of self.old ≡ Some a → now_of self.new ≡ a.1 }
+        ensures now { (a : Tapes × TapeTree) → around_of self.old ≡ Some a → now_of self.new ≡ a.1 }
     {
         self.inside = None;
     }

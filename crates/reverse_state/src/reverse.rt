@@ -4,7 +4,6 @@ ghost use Rattle.sweep_evaluation.specs.Machine.{ran};
 ghost use Rattle.reverse_sweep.specs.Reversing.{opened_sum, closed_sum, added, grown, own_value_set, own_adjoint_set, adjoint_loaded, value_stored, adjoint_stored, value_grown, adjoint_grown};
 ghost use Rattle.reverse_state.specs.Holding.{Held, home_of, Placed, told_placed, PlacedStands, Gives, Leaves, word_taken, on_local, on_stage, Enters, Begins, Quits};
 
-use crate::back_tape::BackTape;
 use crate::reading::Reading;
 use crate::sums::{Sum, add_to, last_amount, put_sum};
 use crate::words::{add_word, copy_words, set_word, word_at};
@@ -14,6 +13,7 @@ use fl_types::Choice;
 use operations::Cells;
 use std::alloc::Global;
 use std::marker::Model;
+use store_core::Tape;
 use sweep_evaluation::Access;
 
 /// A reverse sweep on one thread. A place below `shared` has its value in the cell with its number and its adjoint in the
@@ -101,7 +101,7 @@ impl<C: Cells + Drop> Reverse<C> {
         cells: C,
         shared: u32,
         own: usize,
-        tape: BackTape,
+        tape: Tape,
     ) -> Result<Reverse<C>, Memory>
         requires few { shared ≤ 1048576 }
         requires doubled { length (C.cells cells) ≡ shared + shared }
