@@ -1,7 +1,7 @@
 //! The active names, or the refusal of the first name that is no argument of the ring kind.
 
-ghost use Rattle.std.specs.Prelude.{IfOk};
-ghost use Rattle.activity.specs.Active.{AreActive};
+ghost use Rattle.std.specs.Prelude.{◌≡◌, None, IfOk};
+ghost use Rattle.activity.specs.Active.{AreActive, first_misfit};
 ghost use Rattle.ending.specs.Stage.{IsPart, IsSaying};
 ghost use Rattle.adjoint_stage.specs.Adjoints.{say_misfit, asked_stage};
 
@@ -26,8 +26,8 @@ fn misfit_refused(alloc: Global, error: ActivityError) -> Early
     }
 }
 
-/// The active names of a program.
-pub(crate) fn active_of(
+/// The active names of a program, or the refusal of the first name that is asked for and is no argument of the ring kind.
+pub fn active_of(
     alloc: Global,
     typed: &Typed,
     of: &[Name],
@@ -35,6 +35,7 @@ pub(crate) fn active_of(
 ) -> Result<NameSet, Early>
     ensures part { IsPart (λ _. tt {0}) (asked_stage typed.now of.now wrt.now) result }
     ensures active { IfOk result (λ set. AreActive typed.now of.now wrt.now set.names) }
+    ensures fits { IfOk result (λ _. first_misfit typed.now of.now wrt.now ≡ None) }
 {
     match active(alloc, typed, of, wrt) {
         Ok(set) => Ok(set),

@@ -4,4 +4,5 @@
 mod active;
 mod adjoint;
 
+pub use active::active_of;
 pub use adjoint::load_adjoint;

@@ -1,7 +1,6 @@
 //! The stages of the commands that go by certificates: from the program file and the names that they are asked for to the text.
 #![tactic(auto)]
 
-mod active;
 mod prove;
 mod shared;
 

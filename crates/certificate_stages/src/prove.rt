@@ -5,7 +5,7 @@ ghost use Rattle.activity.specs.Active.{AreActive};
 ghost use Rattle.ending.specs.Stage.{IsStage};
 ghost use Rattle.certificate_stages.specs.Certificates.{proved_for, certificate_stage};
 
-use crate::active::active_of;
+use adjoint_stage::active_of;
 use ending::Early;
 use fl_base::{Memory, Name};
 use fl_types::{NameSet, Typed};

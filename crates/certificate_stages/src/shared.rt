@@ -7,7 +7,7 @@ ghost use Rattle.ending.specs.Stage.{IsStage};
 ghost use Rattle.adjoint_stage.specs.Adjoints.{IsTextFor};
 ghost use Rattle.certificate_stages.specs.Certificates.{printed_shared, shared_stage};
 
-use crate::active::active_of;
+use adjoint_stage::active_of;
 use adjoint_unit::reverse;
 use ending::Early;
 use fl_ast::Program;

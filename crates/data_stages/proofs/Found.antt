@@ -79,3 +79,9 @@ direction_found program args bytes result json other =
 pub lays_few : (result : Result (List Shape) LayoutError) (shapes : List Shape) → LaysWithin (2 ^ 20) result shapes → IfOk result (λ layout. length (keys_of layout) ≤ 2 ^ 20)
 lays_few (Ok layout) shapes h = rw h.0 h.1
 lays_few (Err error) shapes h = tt
+
+-- a value that is found in some bytes
+pub some_bytes : {A E F : Type 0} (result : Result A E) (found : List ℕ → Result A F) (bytes : List ℕ) → IfOk result (λ value. found bytes ≡ Ok value)
+    → IfOk result (λ value. (b : List ℕ) × (found b ≡ Ok value))
+some_bytes (Ok value) found bytes h = (bytes, h)
+some_bytes (Err error) found bytes h = tt

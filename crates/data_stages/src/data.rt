@@ -1,6 +1,6 @@
-ghost use Rattle.std.specs.Prelude.{codes};
+ghost use Rattle.std.specs.Prelude.{◌≡◌, List, ℕ, Ok, IfOk, codes};
 ghost use Rattle.ending.specs.Stage.{IsPart, IsStage};
-ghost use Rattle.data_stages.specs.Files.{args_part, seed_part, direction_part, args_stage, seed_stage, direction_stage};
+ghost use Rattle.data_stages.specs.Files.{args_in, seed_in, args_part, seed_part, direction_part, args_stage, seed_stage, direction_stage};
 
 use crate::fault::data_refused;
 use data_io::{read_args, read_direction, read_seed};
@@ -15,7 +15,8 @@ use store_core::{Args, Direction, Weights};
 const MOST: u64 = 67_108_864;
 
 fn args_of(alloc: Global, bytes: &[u8], typed: &Typed) -> Result<Args, Early>
-    ensures { IsPart (λ args. args) (args_part typed.now bytes.now) result }
+    ensures part { IsPart (λ args. args) (args_part typed.now bytes.now) result }
+    ensures read { IfOk result (λ args. args_in typed.now bytes.now ≡ Ok args) }
 {
     match read_args(alloc, bytes, typed) {
         Ok(args) => Ok(args),
@@ -30,7 +31,8 @@ pub fn load_args<F: Folder>(
     file: &Name,
     typed: &Typed,
 ) -> Result<Args, Early>
-    ensures { IsStage (λ args. args) (F.state folder.old) (F.state folder.new) (args_stage file.now typed.now) result }
+    ensures stage { IsStage (λ args. args) (F.state folder.old) (F.state folder.new) (args_stage file.now typed.now) result }
+    ensures read { IfOk result (λ args. (bytes : List ℕ) × (args_in typed.now bytes ≡ Ok args)) }
 {
     let bytes = take_file(alloc, folder, file, MOST, b"limit data 67108864\n")?;
     args_of(alloc, &bytes, typed)
@@ -43,7 +45,8 @@ fn seed_of(
     args: &Args,
     of: &[Name],
 ) -> Result<Weights, Early>
-    ensures { IsPart (λ weights. weights) (seed_part typed.now args.now of.now bytes.now) result }
+    ensures part { IsPart (λ weights. weights) (seed_part typed.now args.now of.now bytes.now) result }
+    ensures read { IfOk result (λ weights. seed_in typed.now args.now of.now bytes.now ≡ Ok weights) }
 {
     match read_seed(alloc, bytes, typed, args, of) {
         Ok(weights) => Ok(weights),
@@ -60,7 +63,8 @@ pub fn load_seed<F: Folder>(
     args: &Args,
     of: &[Name],
 ) -> Result<Weights, Early>
-    ensures { IsStage (λ weights. weights) (F.state folder.old) (F.state folder.new) (seed_stage file.now typed.now args.now of.now) result }
+    ensures stage { IsStage (λ weights. weights) (F.state folder.old) (F.state folder.new) (seed_stage file.now typed.now args.now of.now) result }
+    ensures read { IfOk result (λ weights. (bytes : List ℕ) × (seed_in typed.now args.now of.now bytes ≡ Ok weights)) }
 {
     let bytes = take_file(alloc, folder, file, MOST, b"limit data 67108864\n")?;
     seed_of(alloc, &bytes, typed, args, of)

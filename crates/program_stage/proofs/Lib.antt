@@ -1,3 +1,4 @@
 pub mod NamesLaws
 pub mod ProgramDone
 pub mod Supporting
+pub mod Typing

@@ -1,5 +1,6 @@
-ghost use Rattle.std.specs.Prelude.{◌≡◌, ◌≤◌, ◌^◌, true, length, IfOk};
+ghost use Rattle.std.specs.Prelude.{◌≡◌, ◌≤◌, ◌^◌, true, Ok, length, IfOk};
 ghost use Rattle.ending.specs.Stage.{IsPart, IsStage};
+ghost use Rattle.fl_types.specs.Rows.{judged};
 ghost use Rattle.fl_types.specs.Supported.{is_supported};
 ghost use Rattle.program_stage.specs.Programs.{source_stage, program_stage, subject_stage, supported_subject};
 
@@ -17,7 +18,8 @@ use std::alloc::Global;
 /// The typed program of a text.
 fn read_program(alloc: Global, text: &[u8]) -> Result<Typed, Early>
     requires { length text.now ≤ 2 ^ 20 }
-    ensures { IsPart (λ typed. typed) (source_stage text.now) result }
+    ensures part { IsPart (λ typed. typed) (source_stage text.now) result }
+    ensures judged { IfOk result (λ typed. judged typed ≡ Ok typed) }
 {
     let tokens = tokens_of(alloc, text)?;
     let program = program_of(alloc, text, &tokens)?;
@@ -26,7 +28,8 @@ fn read_program(alloc: Global, text: &[u8]) -> Result<Typed, Early>
 
 /// The typed program of the program file.
 pub fn load_program<F: Folder>(alloc: Global, folder: &mut F, file: &Name) -> Result<Typed, Early>
-    ensures { IsStage (λ typed. typed) (F.state folder.old) (F.state folder.new) (program_stage file.now) result }
+    ensures stage { IsStage (λ typed. typed) (F.state folder.old) (F.state folder.new) (program_stage file.now) result }
+    ensures judged { IfOk result (λ typed. judged typed ≡ Ok typed) }
 {
     let text = take_file(alloc, folder, file, 1_048_576, b"limit program 1048576\n")?;
     read_program(alloc, &text)

@@ -1,5 +1,7 @@
+ghost use Rattle.std.specs.Prelude.{◌≡◌, Ok, IfOk};
 ghost use Rattle.ending.specs.Stage.{IsPart, IsSaying};
 ghost use Rattle.fl_ast.specs.Readable.{IsReadable};
+ghost use Rattle.fl_types.specs.Rows.{judged};
 ghost use Rattle.program_stage.specs.Typing.{say_type, typed_stage};
 
 use crate::line::{refused_line, refused_word};
@@ -60,7 +62,8 @@ fn type_refused(alloc: Global, error: TypeError) -> Early
 /// The typed program of a tree.
 pub(crate) fn typed_of(alloc: Global, program: Program) -> Result<Typed, Early>
     requires { IsReadable program }
-    ensures { IsPart (λ typed. typed) (typed_stage program) result }
+    ensures part { IsPart (λ typed. typed) (typed_stage program) result }
+    ensures judged { IfOk result (λ typed. judged typed ≡ Ok typed) }
 {
     match check(alloc, program) {
         Ok(typed) => Ok(typed),

@@ -5,18 +5,18 @@ use Rattle.certificate_stages.proofs.shared.load_shared_adjoint.Goals as goal
 
 pub returns-in_err-typed : goal.returns-in_err-typed
 unfolding Rattle.certificate_stages.specs.Certificates.shared_stage Rattle.program_stage.specs.Programs.subject_stage
-returns-in_err-typed g c = ends_at c.in_err-typed.ensures c.from_residual.ensures
+returns-in_err-typed g c = ends_at c.in_err-typed.ensures.stage c.from_residual.ensures
 
 pub returns-in_err-active : goal.returns-in_err-active
 unfolding Rattle.certificate_stages.specs.Certificates.shared_stage Rattle.program_stage.specs.Programs.subject_stage
-returns-in_err-active g c = goes_on c.in_ok-typed.ensures (ends_part c.in_err-active.ensures.part c.from_residual-in_err-active.ensures)
+returns-in_err-active g c = goes_on c.in_ok-typed.ensures.stage (ends_part c.in_err-active.ensures.part c.from_residual-in_err-active.ensures)
 
 pub returns-in-Ok : goal.returns-in-Ok
 unfolding Rattle.certificate_stages.specs.Certificates.shared_stage Rattle.program_stage.specs.Programs.subject_stage
 returns-in-Ok g c =
-    goes_on c.in_ok-typed.ensures (goes_on (stands c.in_ok-active.ensures.part)
+    goes_on c.in_ok-typed.ensures.stage (goes_on (stands c.in_ok-active.ensures.part)
     (stands (gives _ (text_due printed_shared c.in_ok-typed.typed c.args.of.now c.args.wrt.now c.in_ok-active.active.names c.text_for.result _ c.in_ok-active.ensures.active c.text_for.ensures c.in-Ok.is))))
 
 pub returns : goal.returns
 unfolding Rattle.certificate_stages.specs.Certificates.shared_stage Rattle.program_stage.specs.Programs.subject_stage
-returns g c = goes_on c.in_ok-typed.ensures (goes_on (stands c.in_ok-active.ensures.part) (stands wants))
+returns g c = goes_on c.in_ok-typed.ensures.stage (goes_on (stands c.in_ok-active.ensures.part) (stands wants))

@@ -4,12 +4,15 @@ use Rattle.data_stages.specs.Faults.{say_data}
 use Rattle.data_stages.proofs.Found.{seed_found}
 use Rattle.data_stages.proofs.data.seed_of.Goals as goal
 
-pub returns-in-Ok : goal.returns-in-Ok
+pub returns-in-Ok-clause-part : goal.returns-in-Ok-clause-part
 unfolding Rattle.data_stages.specs.Files.seed_part
-returns-in-Ok c = finds _ _ (seed_found c.args.typed.now c.args.args.now c.args.of.now c.args.bytes.now (Ok c.in-Ok.weights) c.in-Ok.ensures.json c.in-Ok.ensures.no_json)
+returns-in-Ok-clause-part c = finds _ _ (seed_found c.args.typed.now c.args.args.now c.args.of.now c.args.bytes.now (Ok c.in-Ok.weights) c.in-Ok.ensures.json c.in-Ok.ensures.no_json)
 
-pub returns-in-Err : goal.returns-in-Err
+pub returns-in-Ok-clause-read : goal.returns-in-Ok-clause-read
+returns-in-Ok-clause-read c = seed_found c.args.typed.now c.args.args.now c.args.of.now c.args.bytes.now (Ok c.in-Ok.weights) c.in-Ok.ensures.json c.in-Ok.ensures.no_json
+
+pub returns-in-Err-clause-part : goal.returns-in-Err-clause-part
 unfolding Rattle.data_stages.specs.Files.seed_part
-returns-in-Err c =
+returns-in-Err-clause-part c =
     refuses _ (say_data (codes "seed")) _ _ refl (seed_found c.args.typed.now c.args.args.now c.args.of.now c.args.bytes.now (Err c.in-Err.error) c.in-Err.ensures.json c.in-Err.ensures.no_json)
     c.data_refused.ensures
