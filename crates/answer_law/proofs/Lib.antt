@@ -1,0 +1,4 @@
+pub mod Words
+pub mod Opening
+pub mod Reading
+pub mod Answering
