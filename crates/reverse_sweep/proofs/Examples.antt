@@ -10,18 +10,18 @@ use Rattle.reverse_sweep.specs.Reversing.{Stage, Reversing, reversing, added, op
 use Rattle.reverse_sweep.specs.Machine.{undos_run}
 
 abbrev stage_of : List ℕ → List (ℕ × ℕ) → Stage
-stage_of c rs = record { cells = c; sums = rs; ops = [] }
+stage_of c rs = record { cells = c; sums = rs; ops = []; adds = 0 }
 
 -- an addition goes to the innermost sum of its cell
 to_a_sum : added 1 5 (stage_of (10 ∷ 20 ∷ []) ((0, 1) ∷ (1, 2) ∷ (1, 3) ∷ [])) ≡ stage_of (10 ∷ 20 ∷ []) ((0, 1) ∷ (1, 7) ∷ (1, 3) ∷ [])
 to_a_sum = refl
 
 -- or else to the cell
-to_a_cell : added 1 5 (stage_of (10 ∷ 20 ∷ []) ((0, 1) ∷ [])) ≡ record { cells = 10 ∷ 25 ∷ []; sums = (0, 1) ∷ []; ops = Add 1 5 ∷ [] }
+to_a_cell : added 1 5 (stage_of (10 ∷ 20 ∷ []) ((0, 1) ∷ [])) ≡ record { cells = 10 ∷ 25 ∷ []; sums = (0, 1) ∷ []; ops = Add 1 5 ∷ []; adds = 0 }
 to_a_cell = refl
 
 -- a sum is made at its end, to the sum outside of it where there is one
-sum_made : closed_sum 1 (added 1 5 (added 1 4 (opened_sum 1 (stage_of (10 ∷ 20 ∷ []) [])))) ≡ record { cells = 10 ∷ 29 ∷ []; sums = []; ops = Add 1 9 ∷ [] }
+sum_made : closed_sum 1 (added 1 5 (added 1 4 (opened_sum 1 (stage_of (10 ∷ 20 ∷ []) [])))) ≡ record { cells = 10 ∷ 29 ∷ []; sums = []; ops = Add 1 9 ∷ []; adds = 0 }
 sum_made = refl
 
 sum_within : closed_sum 1 (added 1 5 (opened_sum 1 (stage_of (10 ∷ 20 ∷ []) ((1, 2) ∷ [])))) ≡ stage_of (10 ∷ 20 ∷ []) ((1, 7) ∷ [])

@@ -1,8 +1,9 @@
 -- What a reverse sweep has at hand, and what it does there, step by step. Places below P have cells: place p its value in cell p and its
 -- adjoint in cell P + p; the words of further places are the iteration's own.
-use Rattle.std.specs.Prelude.{ℕ, ◌+◌, ◌-◌, Bool, true, false, ◌==◌, if◌then◌else◌, nat_lt, List, [], ◌∷◌, ◌++◌, Option, Some, None, slice_index, slice_set}
+use Rattle.std.specs.Prelude.{ℕ, suc, ◌+◌, ◌-◌, Bool, true, false, ◌==◌, if◌then◌else◌, nat_lt, List, [], ◌∷◌, ◌++◌, Option, Some, None, slice_index, slice_set}
 use Rattle.ring_core.specs.Ring.{ring_add}
 use Rattle.fl_types.specs.declared.choice.Choice.{Choice}
+use Rattle.fl_types.specs.declared.choice.Choice.TheVariants.{Shared, Atomic, Reduction}
 use Rattle.operations.specs.declared.op.Op.{Op}
 use Rattle.operations.specs.declared.op.Op.TheVariants.{Load, Store, Bump, Add}
 use Rattle.operations.specs.Ops.{acts}
@@ -14,11 +15,12 @@ use Rattle.sweep_evaluation.specs.Machine.{Ran, ran, Told}
 abbrev pub Sums : Type 0
 Sums = List (ℕ × ℕ)
 
--- the cells, the sums, and the operations so far
+-- the cells, the sums, the operations so far, and how many atomic additions to adjoints there were
 pub record Stage : Type 0 where
   pub cells : List ℕ
   pub sums : Sums
   pub ops : List Op
+  pub adds : ℕ
 
 pub record Reversing : Type 0 where
   pub local : Local
@@ -130,8 +132,13 @@ value_grown n one_step a (Some p) s =
     if nat_lt p n then reversing s.local (grown one_step p a s.stage)
     else reversing (own_value n p (ring_add (slice_index s.local.values (p - n)) a) s.local) s.stage
 
+abbrev pub counted : Choice → Stage → Stage
+counted Shared g = g
+counted Atomic g = record g { adds = suc g.adds }
+counted Reduction g = g
+
 abbrev pub adjoint_grown : ℕ → Choice → ℕ → Option ℕ → Reversing → Reversing
 adjoint_grown n choice a None s = s
 adjoint_grown n choice a (Some p) s =
-    if nat_lt p n then reversing s.local (grown (is_one_step choice) (n + p) a s.stage)
+    if nat_lt p n then reversing s.local (counted choice (grown (is_one_step choice) (n + p) a s.stage))
     else reversing (own_adjoint n p (ring_add (slice_index s.local.adjoints (p - n)) a) s.local) s.stage
