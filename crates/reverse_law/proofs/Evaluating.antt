@@ -39,17 +39,17 @@ pub record Matches {X A : Type 0} (l : Local) (R : X → A → Type 0) (r : Ran 
   pub state : q.state ≡ reversing l r.state
 
 abbrev pub Evaluates : {X A : Type 0} → Local → Tree X → (X → A → Type 0) → (Reversing → Ran Reversing A) → Type 0
-Evaluates l t R m = (g : Stage) → Matches l R (go t g) (m (reversing l g))
+Evaluates l t R m = (cells : ℕ → Bool) (g : Stage) → Matches l R (go cells t g) (m (reversing l g))
 
 pub eval_done : {X A : Type 0} (l : Local) (R : X → A → Type 0) (x : X) (a : A) → R x a → Evaluates l (done x) R (ran a)
-eval_done l R x a h = λ g. record { value = h; state = refl }
+eval_done l R x a h = λ cells g. record { value = h; state = refl }
 
 pub eval_then : {X Y A B : Type 0} (l : Local) (t : Tree X) (f : X → Tree Y) (R : X → A → Type 0) (Q : Y → B → Type 0) (m : Reversing → Ran Reversing A) (h : A → Reversing → Ran Reversing B)
     → Evaluates l t R m → ((x : X) (a : A) → R x a → Evaluates l (f x) Q (h a)) → Evaluates l (t giving f) Q (λ s. m s to h)
-eval_then l t f R Q m h d e = λ g.
+eval_then l t f R Q m h d e = λ cells g.
     let q = m (reversing l g) in
-    subst (λ r. Matches l Q r (h q.out q.state)) (sym (go_giving t f g))
-    (subst (λ (s : Reversing). Matches l Q (go (f (go t g).out) (go t g).state) (h q.out s)) (sym (d g).state) (e (go t g).out q.out (d g).value (go t g).state))
+    subst (λ r. Matches l Q r (h q.out q.state)) (sym (go_giving cells t f g))
+    (subst (λ (s : Reversing). Matches l Q (go cells (f (go cells t g).out) (go cells t g).state) (h q.out s)) (sym (d cells g).state) (e (go cells t g).out q.out (d cells g).value cells (go cells t g).state))
 
 pub eval_map : {X Y A B : Type 0} (l : Local) (t : Tree X) (f : X → Y) (R : X → A → Type 0) (Q : Y → B → Type 0) (m : Reversing → Ran Reversing A) (h : A → B)
     → Evaluates l t R m → ((x : X) (a : A) → R x a → Q (f x) (h a)) → Evaluates l (t giving (λ x. done (f x))) Q (λ s. m s to (λ a. ran (h a)))
@@ -62,8 +62,8 @@ pub eval_two : {X Y Z A B C : Type 0} (l : Local) (t : Tree X) (u : Tree Y) (f :
 eval_two l t u f R Q W m n h d e k =
     eval_then l t (λ x. u giving f x) R W m (λ a s. n s to h a) d (λ x a r. eval_then l u (f x) Q W n (h a) e (λ y b q. k x y a b r q))
 
-pub eval_same : {X A : Type 0} (l : Local) (t u : Tree X) (R : X → A → Type 0) (m : Reversing → Ran Reversing A) → ((g : Stage) → go t g ≡ go u g) → Evaluates l t R m → Evaluates l u R m
-eval_same l t u R m e d = λ g. subst (λ r. Matches l R r (m (reversing l g))) (e g) (d g)
+pub eval_same : {X A : Type 0} (l : Local) (t u : Tree X) (R : X → A → Type 0) (m : Reversing → Ran Reversing A) → ((cells : ℕ → Bool) (g : Stage) → go cells t g ≡ go cells u g) → Evaluates l t R m → Evaluates l u R m
+eval_same l t u R m e d = λ cells g. subst (λ r. Matches l R r (m (reversing l g))) (e cells g) (d cells g)
 
 -- ---- values
 
@@ -88,18 +88,18 @@ pub eval_exactly : (l : Local) (n : ℕ) (found : Found) (r : Result ℤ IndexTr
 eval_exactly l n found r e = subst (λ (f : Found). Evaluates l (done (value_or_zero f)) IsNumber (exactly (told n) r)) (sym e) (by_result r)
   where
     by_result : (r : Result ℤ IndexTrap) → Evaluates l (done (value_or_zero (of_index r))) IsNumber (exactly (told n) r)
-    by_result (Ok z) = λ g. record { value = refl; state = refl }
-    by_result (Err t) = λ g. record { value = refl; state = refl }
+    by_result (Ok z) = λ cells g. record { value = refl; state = refl }
+    by_result (Err t) = λ cells g. record { value = refl; state = refl }
 
 -- a load, at a place that may not be
 pub eval_load : (w : World) (l : Local) (slot : ℕ) (accessed : Bool) (o : Option ℕ) → Evaluates l (at_place (done 0) (value_load w l) o) IsSame (load_at (told w.shared) slot accessed o)
-eval_load w l slot accessed None = λ g. record { value = refl; state = refl }
-eval_load w l slot accessed (Some p) = λ g. by_test (nat_lt p w.shared) g
+eval_load w l slot accessed None = λ cells g. record { value = refl; state = refl }
+eval_load w l slot accessed (Some p) = λ cells g. by_test (nat_lt p w.shared) cells g
   where
-    by_test : (b : Bool) (g : Stage) → Matches l IsSame (go (cond b (loads p (λ x. done x)) (done (slice_index l.values (p - w.shared)))) g)
+    by_test : (b : Bool) (cells : ℕ → Bool) (g : Stage) → Matches l IsSame (go cells (cond b (loads p (λ x. done x)) (done (slice_index l.values (p - w.shared)))) g)
         (ran (if b then slice_index g.cells p else slice_index l.values (p - w.shared)) (if b then reversing l (record g { ops = g.ops ++ Load p ∷ [] }) else reversing l g))
-    by_test true g = record { value = refl; state = refl }
-    by_test false g = record { value = refl; state = refl }
+    by_test true cells g = record { value = refl; state = refl }
+    by_test false cells g = record { value = refl; state = refl }
 
 -- ---- occurrences
 
@@ -147,7 +147,7 @@ pub at_scalar : (names : Names) (w : World) → IsNamed names w.site → (l : Lo
 at_scalar names w s l of_kind slot place accessed h =
     let p = and_parts (is_slot names unwatched of_kind slot accessed) (is_place (place_in_slot names.0 slot []) place) h in
     let b = is_at names w.site s of_kind slot accessed p.0 in
-    λ g. record { value = sym (placed names w.site s slot b.below []) ∙ place_found (place_in_slot names.0 slot []) place p.1; state = refl }
+    λ cells g. record { value = sym (placed names w.site s slot b.below []) ∙ place_found (place_in_slot names.0 slot []) place p.1; state = refl }
 
 pub at_subscripts : (names : Names) (w : World) → IsNamed names w.site → (l : Local) (slot : ℕ) → slot < length names.0 → (ss : Expressions) (m : Reversing → Ran Reversing (List ℤ)) → Evaluates l (values_tree ss w l) AreNumbers m
     → Evaluates l (place_tree (record { name = slot_name names.0 slot; subscripts = ss }) w l) IsSame (λ s. m s to (λ zs. ran (place_in_slot names.0 slot zs)))
@@ -168,7 +168,7 @@ pub at_word : (names : Names) (w : World) (l : Local) (p : SpotTree) → AtPlace
 at_word names w l p d =
     let q = spot_back names.0 p in
     eval_same l (place_tree q w l giving read_at w l q.name) (value_tree (Rattle.fl_ast.specs.Tree.get q.name q.subscripts) w l) (IsReadAs (kind_of w.site q.name)) (spot_word (told w.shared) names p)
-    (go_through (values_tree q.subscripts w l) (λ vs. place_of w.site q.name (whole_numbers vs)) (read_at w l q.name))
+    (λ cells. go_through cells (values_tree q.subscripts w l) (λ vs. place_of w.site q.name (whole_numbers vs)) (read_at w l q.name))
     (eval_then l (place_tree q w l) (read_at w l q.name) IsSame (IsReadAs (kind_of w.site q.name)) (spot_place (told w.shared) names p) (load_at (told w.shared) (spot_slot p) (is_accessed p)) d
     (λ o o' r. subst (λ (x : Option ℕ). Evaluates l (read_at w l q.name x) (IsReadAs (kind_of w.site q.name)) (load_at (told w.shared) (spot_slot p) (is_accessed p) o')) (sym r)
     (eval_map l (at_place (done 0) (value_load w l) o') (value_from (kind_of w.site q.name)) IsSame (IsReadAs (kind_of w.site q.name)) (load_at (told w.shared) (spot_slot p) (is_accessed p) o') (λ (x : ℕ). x)
@@ -186,7 +186,7 @@ pub at_number : (names : Names) (w : World) → IsNamed names w.site → (l : Lo
 at_number names w s l p h d =
     let q = spot_back names.0 p in
     let k : is_index_kind (kind_of w.site q.name) ≡ true = ap (λ y. is_index_kind (kind_of w.site y)) (slot_named names.0 p) ∙ (spot_at names w.site s is_index_kind p h).kinded in
-    λ g. let m = at_word names w l p d g in record { value = index_of_kind (kind_of w.site q.name) (go (value_tree (index_back names.0 (index_get p)) w l) g).out (spot_word (told w.shared) names p (reversing l g)).out k m.value; state = m.state }
+    λ cells g. let m = at_word names w l p d cells g in record { value = index_of_kind (kind_of w.site q.name) (go cells (value_tree (index_back names.0 (index_get p)) w l) g).out (spot_word (told w.shared) names p (reversing l g)).out k m.value; state = m.state }
 
 -- ---- calls
 
@@ -196,7 +196,7 @@ pub eval_argument : {A B : Type 0} (w : World) (l : Local) (a : Expression) (f :
 eval_argument w l a f R Q m h d e =
     let next : List Value → Tree Value = λ vs. done (value_or_zero (call_result w.site.width f vs)) in
     eval_same l (value_tree a w l giving (λ v. next (v ∷ []))) (value_tree (call f (one a)) w l) Q (λ s. m s to h)
-    (λ g. sym (go_through (value_tree a w l) (λ v. v ∷ []) next g))
+    (λ cells g. sym (go_through cells (value_tree a w l) (λ v. v ∷ []) next g))
     (eval_then l (value_tree a w l) (λ v. next (v ∷ [])) R Q m h d e)
 
 pub eval_arguments : {A B C : Type 0} (w : World) (l : Local) (a b : Expression) (f : Fun) (R : Value → A → Type 0) (S : Value → B → Type 0) (Q : Value → C → Type 0)
@@ -207,15 +207,15 @@ pub eval_arguments : {A B C : Type 0} (w : World) (l : Local) (a b : Expression)
 eval_arguments w l a b f R S Q m n h d e k =
     let next : List Value → Tree Value = λ vs. done (value_or_zero (call_result w.site.width f vs)) in
     eval_same l (value_tree a w l giving (λ v. value_tree b w l giving (λ u. next (v ∷ u ∷ [])))) (value_tree (call f (two a b)) w l) Q (λ s. m s to (λ x t. n t to h x))
-    (λ g. by_two (value_tree a w l) (value_tree b w l) next g)
+    (λ cells g. by_two cells (value_tree a w l) (value_tree b w l) next g)
     (eval_two l (value_tree a w l) (value_tree b w l) (λ v u. next (v ∷ u ∷ [])) R S Q m n h d e k)
   where
-    by_two : (t u : Tree Value) (next : List Value → Tree Value) (g : Stage) → go (t giving (λ v. u giving (λ x. next (v ∷ x ∷ [])))) g ≡ go ((t giving (λ v. (u giving (λ x. done (x ∷ []))) giving (λ vs. done (v ∷ vs)))) giving next) g
-    by_two t u next g =
-        let r = go t g in
-        go_giving t (λ v. u giving (λ x. next (v ∷ x ∷ []))) g
-        ∙ (go_giving u (λ x. next (r.out ∷ x ∷ [])) r.state
-        ∙ (sym (go_giving (u giving (λ x. done (x ∷ []))) (λ vs. next (r.out ∷ vs)) r.state ∙ ap (λ q. go (next (r.out ∷ q.out)) q.state) (go_giving u (λ x. done (x ∷ [])) r.state))
-        ∙ sym (go_giving (t giving (λ v. (u giving (λ x. done (x ∷ []))) giving (λ vs. done (v ∷ vs)))) next g
-        ∙ (ap (λ q. go (next q.out) q.state) (go_giving t (λ v. (u giving (λ x. done (x ∷ []))) giving (λ vs. done (v ∷ vs))) g)
-        ∙ sym (go_giving ((u giving (λ x. done (x ∷ []))) giving (λ vs. done (r.out ∷ vs))) next r.state) ∙ go_through (u giving (λ x. done (x ∷ []))) (λ vs. r.out ∷ vs) next r.state))))
+    by_two : (cells : ℕ → Bool) (t u : Tree Value) (next : List Value → Tree Value) (g : Stage) → go cells (t giving (λ v. u giving (λ x. next (v ∷ x ∷ [])))) g ≡ go cells ((t giving (λ v. (u giving (λ x. done (x ∷ []))) giving (λ vs. done (v ∷ vs)))) giving next) g
+    by_two cells t u next g =
+        let r = go cells t g in
+        go_giving cells t (λ v. u giving (λ x. next (v ∷ x ∷ []))) g
+        ∙ (go_giving cells u (λ x. next (r.out ∷ x ∷ [])) r.state
+        ∙ (sym (go_giving cells (u giving (λ x. done (x ∷ []))) (λ vs. next (r.out ∷ vs)) r.state ∙ ap (λ q. go cells (next (r.out ∷ q.out)) q.state) (go_giving cells u (λ x. done (x ∷ [])) r.state))
+        ∙ sym (go_giving cells (t giving (λ v. (u giving (λ x. done (x ∷ []))) giving (λ vs. done (v ∷ vs)))) next g
+        ∙ (ap (λ q. go cells (next q.out) q.state) (go_giving cells t (λ v. (u giving (λ x. done (x ∷ []))) giving (λ vs. done (v ∷ vs))) g)
+        ∙ sym (go_giving cells ((u giving (λ x. done (x ∷ []))) giving (λ vs. done (r.out ∷ vs))) next r.state) ∙ go_through cells (u giving (λ x. done (x ∷ []))) (λ vs. r.out ∷ vs) next r.state))))

@@ -70,7 +70,7 @@ mutual
       at_subscripts names w s l slot (is_at names w.site s of_kind slot accessed p.0).below (indices_back names.0 is) (index_values (told w.shared) names is) (at_indices names w s l is p.1)
 
   pub at_index : (names : Names) (w : World) → IsNamed names w.site → (l : Local) (i : IndexTree) → is_index_fit names unwatched i ≡ true → AtIndex names w l i
-  at_index names w s l (number (pos n)) h = λ g. record { value = literal_index n h; state = refl }
+  at_index names w s l (number (pos n)) h = λ cells g. record { value = literal_index n h; state = refl }
   at_index names w s l (number (negsuc n)) h = cc
   at_index names w s l (index_get p) h = at_number names w s l p h (at_place names w s l is_index_kind p h)
   at_index names w s l (index_minus a) h =
@@ -104,7 +104,7 @@ mutual
       (λ v x r. eval_exactly l w.shared (absolute_result w.site.width v) (absolute_index x) (ap (absolute_result w.site.width) r ∙ absolute_found w.site.width x))
 
   pub at_indices : (names : Names) (w : World) → IsNamed names w.site → (l : Local) (is : IndexTrees) → are_indices_fit names unwatched is ≡ true → AtIndices names w l is
-  at_indices names w s l no_indices h = λ g. record { value = refl; state = refl }
+  at_indices names w s l no_indices h = λ cells g. record { value = refl; state = refl }
   at_indices names w s l (index i is) h =
       let q = and_parts (is_index_fit names unwatched i) (are_indices_fit names unwatched is) h in
       eval_two l (value_tree (index_back names.0 i) w l) (values_tree (indices_back names.0 is) w l) (λ v vs. done (v ∷ vs)) IsNumber AreNumbers AreNumbers
@@ -184,15 +184,15 @@ at_ring_spot : (names : Names) (w : World) → IsNamed names w.site → (l : Loc
 at_ring_spot names w s l p h =
     let q = spot_back names.0 p in
     let k : is_ring_kind (kind_of w.site q.name) ≡ true = ap (λ y. is_ring_kind (kind_of w.site y)) (slot_named names.0 p) ∙ (spot_at names w.site s is_ring_kind p h).kinded in
-    λ g.
-    let m = at_word names w l p (at_place names w s l is_ring_kind p h) g in
-    record { value = word_of_kind (kind_of w.site q.name) (go (value_tree (get q.name q.subscripts) w l) g).out (spot_word (told w.shared) names p (reversing l g)).out k m.value; state = m.state }
+    λ cells g.
+    let m = at_word names w l p (at_place names w s l is_ring_kind p h) cells g in
+    record { value = word_of_kind (kind_of w.site q.name) (go cells (value_tree (get q.name q.subscripts) w l) g).out (spot_word (told w.shared) names p (reversing l g)).out k m.value; state = m.state }
 
 pub at_ring : (names : Names) (w : World) → IsNamed names w.site → (l : Local) (a : RingTree) → is_ring_fit names unwatched a ≡ true → AtRing names w l a
-at_ring names w s l (word x) h = λ g. record { value = (refl, λ e. tt); state = refl }
+at_ring names w s l (word x) h = λ cells g. record { value = (refl, λ e. tt); state = refl }
 at_ring names w s l (ring_get p) h = at_ring_spot names w s l p h
 at_ring names w s l (widened i) h =
-    λ g. let m = at_index names w s l i h g in record { value = widened_word (go (value_tree (index_back names.0 i) w l) g).out (index_value (told w.shared) names i (reversing l g)).out m.value; state = m.state }
+    λ cells g. let m = at_index names w s l i h cells g in record { value = widened_word (go cells (value_tree (index_back names.0 i) w l) g).out (index_value (told w.shared) names i (reversing l g)).out m.value; state = m.state }
 at_ring names w s l (ring_minus a) h =
     let q = and_parts (not (is_widened a)) (is_ring_fit names unwatched a) h in
     eval_map l (value_tree (ring_back names.0 a) w l) (λ v. value_or_zero (negation_result v)) (IsWord (is_widened a)) (IsWord false) (ring_value (told w.shared) names a) ring_neg (at_ring names w s l a q.1)

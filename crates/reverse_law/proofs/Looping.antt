@@ -1,5 +1,6 @@
 -- Loops are undone as the trees for them play: turns downwards, iterations upwards with their sums.
 use Rattle.std.proofs.Common.{◌≡◌, ℕ, zero, suc, ◌+◌, List, [], ◌∷◌, map, refl, ap, sym, ◌∙◌, subst, Bool, true, false, ◌&&◌, cond, Option, Some, None}
+use Rattle.std.proofs.lemmas.Bool.{and_parts}
 use Rattle.std.specs.Prelude.{◌/◌, ◌%◌, ◌*◌, nat_lt, if◌then◌else◌}
 use Rattle.std.specs.Int.{w64, cast_unsigned}
 use Rattle.fl_ast.specs.declared.directive.Directive.{Directive}
@@ -23,11 +24,11 @@ use Rattle.sweep_steps.specs.declared.step.PrivateScalar.{PrivateScalar}
 use Rattle.sweep_steps.specs.StepsStand.{PrivatesStand}
 use Rattle.sweep_evaluation.specs.Machine.{Ran, ran}
 use Rattle.undo_steps.specs.UndosStand.{scalar_place, reduction_at, reduction_places, IterationsUndo}
-use Rattle.reverse_sweep.specs.Reversing.{Stage, Reversing, reversing, opened_sum, closed_sum, added, own_value_set, own_adjoint_set, popped, on_tape}
+use Rattle.reverse_sweep.specs.Reversing.{Sums, Stage, Reversing, reversing, summed, added_by, first_sum, later_sums, opened_sum, closed_sum, added, own_value_set, own_adjoint_set, popped, on_tape}
 use Rattle.reverse_sweep.specs.Machine.{below_words, bounds_on, variable_set, turns_undone, turn_undone, loop_undone, Counts, below_counts, counts_on, count_of, variables_set, private_refilled, privates_refilled, privates_cleared, opened_sums, closed_sums, iteration_begun, iteration_closed, iteration_undone, iterations_undone, parallel_undone}
 use Rattle.reverse_law.specs.Reverse.{IsNamed}
-use Rattle.reverse_law.proofs.Going.{go, go_giving, go_collect, landed}
-use Rattle.reverse_law.proofs.Landing.{LandsAt, lands_done, lands_both, own_value_is, own_adjoint_is}
+use Rattle.reverse_law.proofs.Going.{tallied, go, go_giving, seen, alike, go_collect, landed}
+use Rattle.reverse_law.proofs.Landing.{IsPlaced, name_placed, unseen_sum, shown, seen_cells, LandsBy, by_done, by_both, own_value_is, own_adjoint_is}
 
 -- ---- places of scalars
 
@@ -36,19 +37,19 @@ scalar_placed names site s x = ap (λ ks. first_at (same_key (x, [])) ks) s.keys
 
 -- ---- sequential loops
 
-pub lands_turns : (n : ℕ) (f : ℕ → Local → Tree Local) (m : ℕ → Reversing → Reversing) → ((k : ℕ) (l : Local) → LandsAt l (f k l) (m k)) → (l : Local) → LandsAt l (turns_back n f l) (turns_undone n m)
-lands_turns zero f m d l = lands_done l
-lands_turns (suc n) f m d l = lands_both l (f n l) (turns_back n f) (m n) (turns_undone n m) (d n l) (λ k. lands_turns n f m d k)
+pub lands_turns : (b : Bool) (w : World) (n : ℕ) (f : ℕ → Local → Tree Local) (m : ℕ → Reversing → Reversing) → ((k : ℕ) (l : Local) → LandsBy b w l (f k l) (m k)) → (l : Local) → LandsBy b w l (turns_back n f l) (turns_undone n m)
+lands_turns b w zero f m d l = by_done b w l
+lands_turns b w (suc n) f m d l = by_both b w l (f n l) (turns_back n f) (m n) (turns_undone n m) (d n l) (λ k. lands_turns b w n f m d k)
 
-variable_is : (w : World) (var : List ℕ) (place : Option ℕ) (t : IterationCount) (k : ℕ) (l : Local) → place ≡ place_of w.site var [] → with_variable_word w var t k l ≡ variable_set w.shared place t k l
+pub variable_is : (w : World) (var : List ℕ) (place : Option ℕ) (t : IterationCount) (k : ℕ) (l : Local) → place ≡ place_of w.site var [] → with_variable_word w var t k l ≡ variable_set w.shared place t k l
 variable_is w var place t k l e = own_value_is w (place_of w.site var []) (cast_unsigned w64 (value_at t k)) l ∙ ap (λ (o : Option ℕ). own_value_set w.shared o (cast_unsigned w64 (value_at t k)) l) (sym e)
 
-pub lands_loop : (names : Names) (w : World) → IsNamed names w.site → (var : List ℕ) (place : Option ℕ) (f : World → Local → Tree Local) (m : Reversing → Reversing) → place ≡ scalar_place names var → ((l : Local) → LandsAt l (f (in_turn w var) l) m) → (l : Local)
-    → LandsAt l (loop_back w var f l) (loop_undone w.shared place m)
-lands_loop names w s var place f m e d l g =
+pub lands_loop : (names : Names) (b : Bool) (w : World) → IsNamed names w.site → (var : List ℕ) (place : Option ℕ) (f : World → Local → Tree Local) (m : Reversing → Reversing) → place ≡ scalar_place names var → ((l : Local) → LandsBy b (in_turn w var) l (f (in_turn w var) l) m) → (l : Local)
+    → LandsBy b w l (loop_back w var f l) (loop_undone w.shared place m)
+lands_loop names b w s var place f m e d l g =
     let t : IterationCount = bounds_on l.tape in
-    lands_turns t.count (one_turn_back w var t f) (turn_undone w.shared place t m)
-    (λ k l h. subst (λ (x : Local). m (reversing (variable_set w.shared place t k l) h) ≡ landed (go (f (in_turn w var) x) h)) (sym (variable_is w var place t k l (e ∙ sym (scalar_placed names w.site s var)))) (d (variable_set w.shared place t k l) h))
+    lands_turns b w t.count (one_turn_back w var t f) (turn_undone w.shared place t m)
+    (λ k l h. subst (λ (x : Local). shown b (m (reversing (variable_set w.shared place t k l) h)) ≡ shown b (landed (go (seen_cells b w) (f (in_turn w var) x) h))) (sym (variable_is w var place t k l (e ∙ sym (scalar_placed names w.site s var)))) (d (variable_set w.shared place t k l) h))
     (on_tape (below_words l.tape) l) g
 
 -- ---- bounds of parallel loops
@@ -112,34 +113,53 @@ clears_are names w s body (x ∷ xs) (q ∷ qs) h l =
 
 -- ---- sums
 
-abbrev summed_goes : ℕ → List ℕ → Tree Local → Stage → Ran Stage Local
-summed_goes n qs t g = ran (go t (opened_sums n qs g)).out (closed_sums n qs (go t (opened_sums n qs g)).state)
+abbrev summed_goes : (ℕ → Bool) → ℕ → List ℕ → Tree Local → Stage → Ran Stage Local
+summed_goes cells n qs t g = ran (go cells t (opened_sums n qs g)).out (closed_sums n qs (go cells t (opened_sums n qs g)).state)
 
-collection_goes : (q : ℕ) (t : Tree Local) (g : Stage) → go (with_collection q t) g ≡ ran (go t (opened_sum q g)).out (closed_sum q (go t (opened_sum q g)).state)
-collection_goes q t g = go_giving (collect q t 0) (λ r. does (Add q r.1) (done r.0)) g ∙ ap (λ (r : Ran Stage (Local × ℕ)). ran r.out.0 (added q r.out.1 r.state)) (go_collect q t 0 g)
+collection_goes : (cells : ℕ → Bool) (q : ℕ) → cells q ≡ false → (t : Tree Local) (g : Stage) → go cells (with_collection q t) g ≡ ran (go cells t (opened_sum q g)).out (closed_sum q (go cells t (opened_sum q g)).state)
+collection_goes cells q n t g =
+    let r = go cells (collect q t 0) g in
+    go_giving cells (collect q t 0) (λ r. does (Add q r.1) (done r.0)) g
+    ∙ (ap (λ (b : Bool). ran r.out.0 (tallied b (added q r.out.1 r.state))) n ∙ ap (λ (r : Ran Stage (Local × ℕ)). ran r.out.0 (added q r.out.1 r.state)) (go_collect cells q n t 0 g))
 
-collections_go : (names : Names) (w : World) → IsNamed names w.site → (xs : List (List ℕ)) (t : Tree Local) (g : Stage) → go (with_collections w xs t) g ≡ summed_goes w.shared (reduction_places names w xs) t g
-collections_go names w s [] t g = refl
-collections_go names w s (x ∷ xs) t g = by_flag (w.active x && is_reduction (w.choice x)) (λ u. collections_go names w s xs u g)
+collections_go : (names : Names) (v : Bool) (w : World) → IsNamed names w.site → (xs : List (List ℕ)) (t : Tree Local) (g : Stage) → go (seen_cells v w) (with_collections w xs t) g ≡ summed_goes (seen_cells v w) w.shared (reduction_places names w xs) t g
+collections_go names v w s [] t g = refl
+collections_go names v w s (x ∷ xs) t g = by_flag (w.active x && is_reduction (w.choice x)) refl (λ u. collections_go names v w s xs u g)
   where
+    cells : ℕ → Bool
+    cells = seen_cells v w
+
     qs : List ℕ
     qs = reduction_places names w xs
 
-    by_shared : (q : ℕ) (b : Bool) → summed_goes w.shared qs (cond b (with_collection (w.shared + q) t) t) g ≡ summed_goes w.shared (cond b (q ∷ qs) qs) t g
-    by_shared q true = ap (λ (r : Ran Stage Local). ran r.out (closed_sums w.shared qs r.state)) (collection_goes (w.shared + q) t (opened_sums w.shared qs g))
-    by_shared q false = refl
+    by_shared : (q : ℕ) (b : Bool) → cells (w.shared + q) ≡ false → summed_goes cells w.shared qs (cond b (with_collection (w.shared + q) t) t) g ≡ summed_goes cells w.shared (cond b (q ∷ qs) qs) t g
+    by_shared q true n = ap (λ (r : Ran Stage Local). ran r.out (closed_sums w.shared qs r.state)) (collection_goes cells (w.shared + q) n t (opened_sums w.shared qs g))
+    by_shared q false n = refl
 
-    by_place : (o : Option ℕ) → summed_goes w.shared qs (with_collection_at w o t) g ≡ summed_goes w.shared (reduction_at w o qs) t g
-    by_place None = refl
-    by_place (Some q) = by_shared q (nat_lt q w.shared)
+    by_place : is_reduction (w.choice x) ≡ true → (o : Option ℕ) → IsPlaced w x o → summed_goes cells w.shared qs (with_collection_at w o t) g ≡ summed_goes cells w.shared (reduction_at w o qs) t g
+    by_place r None h = refl
+    by_place r (Some q) h = by_shared q (nat_lt q w.shared) (unseen_sum v w x q r (h q refl))
 
-    at_x : summed_goes w.shared qs (with_collection_at w (place_of w.site x []) t) g ≡ summed_goes w.shared (reduction_at w (scalar_place names x) qs) t g
-    at_x = ap (λ (o : Option ℕ). summed_goes w.shared qs (with_collection_at w o t) g) (scalar_placed names w.site s x) ∙ by_place (scalar_place names x)
+    at_x : is_reduction (w.choice x) ≡ true → summed_goes cells w.shared qs (with_collection_at w (place_of w.site x []) t) g ≡ summed_goes cells w.shared (reduction_at w (scalar_place names x) qs) t g
+    at_x r =
+        let e = scalar_placed names w.site s x in
+        ap (λ (o : Option ℕ). summed_goes cells w.shared qs (with_collection_at w o t) g) e ∙ by_place r (scalar_place names x) (λ p f. name_placed w.site x [] p (e ∙ f))
 
-    by_flag : (b : Bool) → ((u : Tree Local) → go (with_collections w xs u) g ≡ summed_goes w.shared qs u g)
-        → go (with_collections w xs (cond b (with_collection_at w (place_of w.site x []) t) t)) g ≡ summed_goes w.shared (cond b (reduction_at w (scalar_place names x) qs) qs) t g
-    by_flag true h = h (with_collection_at w (place_of w.site x []) t) ∙ at_x
-    by_flag false h = h t
+    by_flag : (b : Bool) → (w.active x && is_reduction (w.choice x)) ≡ b → ((u : Tree Local) → go cells (with_collections w xs u) g ≡ summed_goes cells w.shared qs u g)
+        → go cells (with_collections w xs (cond b (with_collection_at w (place_of w.site x []) t) t)) g ≡ summed_goes cells w.shared (cond b (reduction_at w (scalar_place names x) qs) qs) t g
+    by_flag true f h = h (with_collection_at w (place_of w.site x []) t) ∙ at_x (and_parts (w.active x) (is_reduction (w.choice x)) f).1
+    by_flag false f h = h t
+
+one_closed : (q a : ℕ) (o : Option Sums) (g : Stage) → seen false (added_by q a o (record g { sums = later_sums g.sums })) ≡ added_by q a o (record g { sums = later_sums g.sums; adds = 0 })
+one_closed q a None g = refl
+one_closed q a (Some rs) g = refl
+
+-- sums are closed alike, whatever was counted
+closing_seen : (b : Bool) (n : ℕ) (qs : List ℕ) (g : Stage) → seen b (closed_sums n qs g) ≡ closed_sums n qs (seen b g)
+closing_seen true n qs g = refl
+closing_seen false n [] g = refl
+closing_seen false n (q ∷ qs) g =
+    closing_seen false n qs (closed_sum (n + q) g) ∙ ap (closed_sums n qs) (one_closed (n + q) (first_sum g.sums) (summed (n + q) (first_sum g.sums) (later_sums g.sums)) g)
 
 -- ---- iterations
 
@@ -159,45 +179,59 @@ begun_is names w s directive var body qs h heads ts l k =
     ∙ (ap (with_clear_privates w xs) (refills_are names w s body xs qs h (variables_set w.shared (placed_heads names heads) k m))
     ∙ clears_are names w s body xs qs h (privates_refilled w.shared qs (variables_set w.shared (placed_heads names heads) k m)))
 
-pub lands_iteration : (names : Names) (w : World) → IsNamed names w.site → (number : ℕ) (directive : Directive) (var : List ℕ) (body : Statements) (qs : List PrivateScalar) → PrivatesStand names w.site body (private_names w.site directive var body) qs
-    → (heads : Heads) (ts : Tapes) (f : World → Local → Tree Local) (m : Reversing → Reversing) → ((l : Local) → LandsAt l (f (in_iteration w number directive var body) l) m) → (l : Local) (k : ℕ) (g : Stage)
-    → iteration_undone w.shared qs (reduction_places names (in_iteration w number directive var body) w.site.declared) (placed_heads names heads) ts m l k g ≡ landed (go (iteration_tree w number directive var body heads ts f l k) g)
-lands_iteration names w s number directive var body qs h heads ts f m d l k g =
+pub lands_iteration : (names : Names) (on : Bool) (w : World) → IsNamed names w.site → (number : ℕ) (directive : Directive) (var : List ℕ) (body : Statements) (qs : List PrivateScalar) → PrivatesStand names w.site body (private_names w.site directive var body) qs
+    → (heads : Heads) (ts : Tapes) (f : World → Local → Tree Local) (m : Reversing → Reversing) → ((l : Local) → LandsBy on (in_iteration w number directive var body) l (f (in_iteration w number directive var body) l) m) → (l : Local) (k : ℕ) (g : Stage)
+    → let v = in_iteration w number directive var body in
+    shown on (iteration_undone w.shared qs (reduction_places names v w.site.declared) (placed_heads names heads) ts m l k g) ≡ shown on (landed (go (seen_cells on v) (iteration_tree w number directive var body heads ts f l k) g))
+lands_iteration names on w s number directive var body qs h heads ts f m d l k g =
     let v = in_iteration w number directive var body in
+    let cells = seen_cells on v in
     let rs = reduction_places names v w.site.declared in
     let b = iteration_begun w.shared qs (placed_heads names heads) ts l k in
-    ap (iteration_closed w.shared rs) (d b (opened_sums w.shared rs g))
-    ∙ (sym (ap landed (collections_go names v (named_in_iteration names w s number directive var body) w.site.declared (f v b) g))
-    ∙ ap (λ (x : Local). landed (go (with_collections v w.site.declared (f v x)) g)) (sym (begun_is names w s directive var body qs h heads ts l k)))
+    let before = opened_sums w.shared rs g in
+    let s1 = m (reversing b before) in
+    let s2 = landed (go cells (f v b) before) in
+    ap (reversing s1.local) (closing_seen on w.shared rs s1.stage)
+    ∙ (ap (iteration_closed w.shared rs) (d b before)
+    ∙ (sym (ap (reversing s2.local) (closing_seen on w.shared rs s2.stage))
+    ∙ (sym (ap (λ (r : Ran Stage Local). shown on (landed r)) (collections_go names on v (named_in_iteration names w s number directive var body) w.site.declared (f v b) g))
+    ∙ ap (λ (x : Local). shown on (landed (go cells (with_collections v w.site.declared (f v x)) g))) (sym (begun_is names w s directive var body qs h heads ts l k)))))
 
 -- an iteration of a loop that is undone, from what the loop's entry has
-pub lands_one : (names : Names) (w : World) → IsNamed names w.site → (number : ℕ) (directive : Directive) (var : List ℕ) (body : Statements) (places : List (Option ℕ)) (qs : List PrivateScalar) (rs : List ℕ) → IterationsUndo names w number directive var body places qs rs
-    → (f : World → Local → Tree Local) (m : Reversing → Reversing) → ((l : Local) → LandsAt l (f (in_iteration w number directive var body) l) m) → (l : Local) (k : ℕ) (g : Stage)
-    → iteration_undone w.shared qs rs (counts_on places l.tape) (top_tapes (below_counts places l.tape)) m (on_tape (below_counts places l.tape) l) k g ≡ landed (go (loop_iterations w number directive var body f l k) g)
-lands_one names w s number directive var body places qs rs h f m d l k g =
+pub lands_one : (names : Names) (on : Bool) (w : World) → IsNamed names w.site → (number : ℕ) (directive : Directive) (var : List ℕ) (body : Statements) (places : List (Option ℕ)) (qs : List PrivateScalar) (rs : List ℕ) → IterationsUndo names w number directive var body places qs rs
+    → (f : World → Local → Tree Local) (m : Reversing → Reversing) → ((l : Local) → LandsBy on (in_iteration w number directive var body) l (f (in_iteration w number directive var body) l) m) → (l : Local) (k : ℕ) (g : Stage)
+    → shown on (iteration_undone w.shared qs rs (counts_on places l.tape) (top_tapes (below_counts places l.tape)) m (on_tape (below_counts places l.tape) l) k g)
+    ≡ shown on (landed (go (seen_cells on (in_iteration w number directive var body)) (loop_iterations w number directive var body f l k) g))
+lands_one names on w s number directive var body places qs rs h f m d l k g =
     let vars = loop_variables directive var body in
     let below = below_heads directive var body l in
     rw (h.variables, h.sums, below_is names vars l.tape, counts_are names vars l.tape)
-    (lands_iteration names w s number directive var body qs h.scalars (loop_heads directive var body l) (top_tapes below.tape) f m d below k g)
+    (lands_iteration names on w s number directive var body qs h.scalars (loop_heads directive var body l) (top_tapes below.tape) f m d below k g)
 
-rounds_go : (t : ℕ → Tree Local) (f : ℕ → Stage → Reversing) → ((k : ℕ) (g : Stage) → f k g ≡ landed (go (t k) g)) → (n : ℕ) (g : Stage) → (go (rounds t n) g).state ≡ iterations_undone n f g
-rounds_go t f h zero g = refl
-rounds_go t f h (suc n) g =
-    ap (λ (r : Ran Stage (Unit {0})). r.state) (go_giving (rounds t n) (λ _. t n giving (λ _. done (tt {0}))) g)
-    ∙ (ap (λ (r : Ran Stage (Unit {0})). r.state) (go_giving (t n) (λ _. done (tt {0})) (go (rounds t n) g).state)
-    ∙ (ap (λ (x : Stage). (go (t n) x).state) (rounds_go t f h n g) ∙ ap (λ (r : Reversing). r.stage) (sym (h n (iterations_undone n f g)))))
+rounds_go : (on : Bool) (cells : ℕ → Bool) (t : ℕ → Tree Local) (f : ℕ → Stage → Reversing) → ((k : ℕ) (g : Stage) → shown on (f k g) ≡ shown on (landed (go cells (t k) g))) → (n : ℕ) (g : Stage)
+    → seen on (go cells (rounds t n) g).state ≡ seen on (iterations_undone n f g)
+rounds_go on cells t f h zero g = refl
+rounds_go on cells t f h (suc n) g =
+    let before = (go cells (rounds t n) g).state in
+    ap (λ (r : Ran Stage (Unit {0})). seen on r.state) (go_giving cells (rounds t n) (λ _. t n giving (λ _. done (tt {0}))) g)
+    ∙ (ap (λ (r : Ran Stage (Unit {0})). seen on r.state) (go_giving cells (t n) (λ _. done (tt {0})) before)
+    ∙ (ap (λ (r : Ran Stage Local). r.state) (alike on cells (t n) before (iterations_undone n f g) (rounds_go on cells t f h n g)) ∙ ap (λ (r : Reversing). r.stage) (sym (h n (iterations_undone n f g)))))
 
-pub lands_parallel : (names : Names) (w : World) → IsNamed names w.site → (number : ℕ) (directive : Directive) (var : List ℕ) (body : Statements) (places : List (Option ℕ)) (qs : List PrivateScalar) (rs : List ℕ) → IterationsUndo names w number directive var body places qs rs
-    → (f : World → Local → Tree Local) (m : Reversing → Reversing) → ((l : Local) → LandsAt l (f (in_iteration w number directive var body) l) m) → (l : Local) → LandsAt l (parallel_back w number directive var body f l) (parallel_undone w.shared places qs rs m)
-lands_parallel names w s number directive var body places qs rs h f m d l g =
+-- by the choices for the loop
+pub lands_parallel : (names : Names) (on : Bool) (w : World) → IsNamed names w.site → (number : ℕ) (directive : Directive) (var : List ℕ) (body : Statements) (places : List (Option ℕ)) (qs : List PrivateScalar) (rs : List ℕ) → IterationsUndo names w number directive var body places qs rs
+    → (f : World → Local → Tree Local) (m : Reversing → Reversing) → ((l : Local) → LandsBy on (in_iteration w number directive var body) l (f (in_iteration w number directive var body) l) m) → (l : Local)
+    → LandsBy on (in_iteration w number directive var body) l (parallel_back w number directive var body f l) (parallel_undone w.shared places qs rs m)
+lands_parallel names on w s number directive var body places qs rs h f m d l g =
+    let v = in_iteration w number directive var body in
+    let cells = seen_cells on v in
     let vars = loop_variables directive var body in
     let heads = loop_heads directive var body l in
     let below = below_heads directive var body l in
-    let its : ℕ → Stage → Reversing = iteration_undone w.shared qs (reduction_places names (in_iteration w number directive var body) w.site.declared) (placed_heads names heads) (top_tapes below.tape) m below in
-    let ended : (go (rounds (loop_iterations w number directive var body f l) (iterations heads)) g).state ≡ iterations_undone (iterations heads) its g =
-    rounds_go (loop_iterations w number directive var body f l) its (λ k x. lands_iteration names w s number directive var body qs h.scalars heads (top_tapes below.tape) f m d below k x) (iterations heads) g in
+    let its : ℕ → Stage → Reversing = iteration_undone w.shared qs (reduction_places names v w.site.declared) (placed_heads names heads) (top_tapes below.tape) m below in
+    let over : seen on (go cells (rounds (loop_iterations w number directive var body f l) (iterations heads)) g).state ≡ seen on (iterations_undone (iterations heads) its g) =
+    rounds_go on cells (loop_iterations w number directive var body f l) its (λ k x. lands_iteration names on w s number directive var body qs h.scalars heads (top_tapes below.tape) f m d below k x) (iterations heads) g in
     rw (h.variables, h.sums, below_is names vars l.tape, counts_are names vars l.tape, count_is names heads)
-    (ap (reversing (popped below)) (sym ended) ∙ ap landed (sym (go_giving (rounds (loop_iterations w number directive var body f l) (iterations heads)) (λ _. done (after_pop below)) g)))
+    (ap (reversing (popped below)) (sym over) ∙ ap (λ (r : Ran Stage Local). shown on (landed r)) (sym (go_giving cells (rounds (loop_iterations w number directive var body f l) (iterations heads)) (λ _. done (after_pop below)) g)))
 
 -- ---- the statements of an iteration
 

@@ -1,11 +1,11 @@
 -- What is played without sums, and what that is of a whole program.
-use Rattle.std.proofs.Common.{◌≡◌, ℕ, zero, suc, ◌+◌, ◌<◌, List, [], ◌∷◌, length, refl, ap, sym, ◌∙◌, subst, arith}
+use Rattle.std.proofs.Common.{◌≡◌, false, ℕ, zero, suc, ◌+◌, ◌<◌, List, [], ◌∷◌, length, refl, ap, sym, ◌∙◌, subst, arith}
 use Rattle.std.specs.Prelude.{slice_index, if◌then◌else◌}
 use Rattle.fl_ast.specs.declared.decl.Decl.{Decl}
 use Rattle.fl_types.specs.Nests.{is_nest, iteration_body}
 use Rattle.store_core.specs.declared.layout.Shape.{Shape}
 use Rattle.store_core.specs.Keys.{with_scalars}
-use Rattle.operations.specs.Tree.{Tree}
+use Rattle.operations.specs.Tree.{Tree, play}
 use Rattle.meaning.specs.Programs.{entry_cells}
 use Rattle.meaning.specs.Statements.{run_all}
 use Rattle.resolved.specs.SlotTables.{kind_at, named_kind, kinds_of, names_of}
@@ -16,24 +16,29 @@ use Rattle.transposition.specs.Back.{loop_iterations, back_all, back_inner}
 use Rattle.transposition.specs.Law.{flat, local}
 use Rattle.transposition.specs.Programs.{program_world}
 use Rattle.transposition.proofs.WholePrograms.{program_transposed}
-use Rattle.reverse_sweep.specs.Reversing.{Reversing}
+use Rattle.reverse_sweep.specs.Reversing.{Stage, Reversing}
+use Rattle.sweep_evaluation.specs.Machine.{Ran}
 use Rattle.reverse_sweep.specs.Machine.{undos_run}
-use Rattle.reverse_law.specs.Reverse.{at_first, ReverseIsPlayed, IterationIsPlayed, ProgramIsNamed, MachineIsTransposed}
-use Rattle.reverse_law.proofs.Going.{landed, go_played}
+use Rattle.reverse_law.specs.Reverse.{at_first, ended, ReverseIsPlayed, IterationIsPlayed, ProgramIsNamed, MachineIsTransposed}
+use Rattle.reverse_law.proofs.Going.{landed, go, go_plain}
 use Rattle.reverse_law.proofs.Looping.{lands_one, named_in_iteration, iteration_is}
-use Rattle.reverse_law.proofs.Landing.{LandsAt}
+use Rattle.reverse_law.proofs.Landing.{shown, LandsBy}
 use Rattle.reverse_law.proofs.Undoing.{lands_all}
 
+-- where nothing is counted
+unseen_play : (t : Tree Local) (c : List ℕ) → shown false (landed (go (λ q. false) t (at_first c))) ≡ ended (play t c)
+unseen_play t c = ap (λ (r : Ran Stage Local). shown false (landed r)) (go_plain (λ q. false) t c [] 0)
+
 pub reverse_played : ReverseIsPlayed
-reverse_played names w us xs l c s h = lands_all names us xs w s h l (at_first c) ∙ ap landed (go_played (back_all xs w l) c)
+reverse_played names w us xs l c s h = lands_all names false us xs w s h (λ e. absurd (cc)) l (at_first c) ∙ unseen_play (back_all xs w l) c
 
 pub iteration_played : IterationIsPlayed
 iteration_played names w number directive var body places qs rs us l c k s h i =
     let v = in_iteration w number directive var body in
     let f = if is_nest directive body then back_inner body else back_all body in
-    lands_one names w s number directive var body places qs rs h f (undos_run names w.shared us)
-    (λ m. subst (λ (t : Tree Local). LandsAt m t (undos_run names w.shared us)) (sym (iteration_is directive body v m)) (lands_all names us (iteration_body directive body) v (named_in_iteration names w s number directive var body) i m)) l k (at_first c)
-    ∙ ap landed (go_played (loop_iterations w number directive var body f l k) c)
+    lands_one names false w s number directive var body places qs rs h f (undos_run names w.shared us)
+    (λ m. subst (λ (t : Tree Local). LandsBy false v m t (undos_run names w.shared us)) (sym (iteration_is directive body v m)) (lands_all names false us (iteration_body directive body) v (named_in_iteration names w s number directive var body) i (λ e. absurd (cc)) m)) l k (at_first c)
+    ∙ unseen_play (loop_iterations w number directive var body f l k) c
 
 -- ---- whole programs
 

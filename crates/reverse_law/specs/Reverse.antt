@@ -38,18 +38,22 @@ pub record IsNamed (names : Names) (site : Site) : Type 0 where
   pub kinds : (slot : ℕ) → slot < length names.0 → kind_of site (slot_name names.0 slot) ≡ kind_at names.1 slot
 
 -- these cells, no sums, and no operations so far
+-- what was counted apart
+abbrev pub uncounted : Reversing → Reversing
+uncounted s = reversing s.local (record s.stage { adds = 0 })
+
 abbrev pub at_first : List ℕ → Stage
-at_first c = record { cells = c; sums = []; ops = [] }
+at_first c = record { cells = c; sums = []; ops = []; adds = 0 }
 
 -- where a played tree leaves a sweep
 abbrev pub ended : Played Local → Reversing
-ended r = reversing r.out (record { cells = r.cells; sums = []; ops = r.ops })
+ended r = reversing r.out (record { cells = r.cells; sums = []; ops = r.ops; adds = 0 })
 
 -- from every tape and all words, statements that undo others come to what the trees play: the same operations, cells and words
 abbrev pub ReverseIsPlayed : Type 0
 ReverseIsPlayed =
     (names : Names) (w : World) (us : UndoTrees) (xs : Statements) (l : Local) (c : List ℕ) → IsNamed names w.site → AllUndoStand names w us xs
-    → undos_run names w.shared us (reversing l (at_first c)) ≡ ended (play (back_all xs w l) c)
+    → uncounted (undos_run names w.shared us (reversing l (at_first c))) ≡ ended (play (back_all xs w l) c)
 
 -- the same of one iteration of a parallel loop that runs alone
 abbrev pub IterationIsPlayed : Type 0
@@ -57,7 +61,7 @@ IterationIsPlayed =
     (names : Names) (w : World) (number : ℕ) (directive : Directive) (var : List ℕ) (body : Statements) (places : List (Option ℕ)) (privates : List PrivateScalar) (reductions : List ℕ) (us : UndoTrees) (l : Local) (c : List ℕ) (k : ℕ)
     → IsNamed names w.site → IterationsUndo names w number directive var body places privates reductions → AllUndoStand names (in_iteration w number directive var body) us (iteration_body directive body)
     → let below = on_tape (below_counts places l.tape) l in
-    iteration_undone w.shared privates reductions (counts_on places l.tape) (top_tapes below.tape) (undos_run names w.shared us) below k (at_first c)
+    uncounted (iteration_undone w.shared privates reductions (counts_on places l.tape) (top_tapes below.tape) (undos_run names w.shared us) below k (at_first c))
     ≡ ended (play (loop_iterations w number directive var body (if is_nest directive body then back_inner body else back_all body) l k) c)
 
 -- outside of its loops a program's names are those of its table
