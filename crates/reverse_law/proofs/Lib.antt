@@ -6,3 +6,4 @@ pub mod Assigned
 pub mod Looping
 pub mod Undoing
 pub mod Reversed
+pub mod Counted

@@ -3,4 +3,4 @@
 
 mod laws;
 
-pub use laws::{iteration_is_played, machine_is_transposed, program_is_named, reverse_is_played};
+pub use laws::{adds_are_counted, iteration_is_played, machine_is_transposed, program_adds_are_counted, program_is_named, reverse_is_played, serial_adds_are_counted};
