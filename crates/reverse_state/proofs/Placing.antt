@@ -115,7 +115,7 @@ gives : {A : Type 0} (u v : Held) (a : A) (M : Placed → Ran Placed A) (m : Rev
     → Does PlacedStands (λ h. h.lost) u v a M → Gives u v a m
 gives u v a M m e d =
     let c : Around = record { shared = u.shared; home = home_of u } in
-    let s : Reversing = reversing (local_of u) (record { cells = u.cells; sums = u.sums; ops = [] }) in
+    let s : Reversing = reversing (local_of u) (record { cells = u.cells; sums = u.sums; ops = []; adds = u.adds }) in
     let at : (t : Reversing) → Stands u t → PlacedStands u (placed u.shared (home_of u) t) = λ t h. record { run = h; shared = refl; home = refl } in
     let ends : v.lost ≡ false → (t : Reversing) → Stands u t → (a ≡ (m t).out) × PlacedStands v (placed u.shared (home_of u) (m t).state) = λ l t h.
     let r = d.runs l (placed u.shared (home_of u) t) (at t h) in
@@ -123,7 +123,7 @@ gives u v a M m e d =
     in
     record {
       before = d.before;
-      keeps = λ l. let r = (ends l s (record { local = refl; cells = refl; sums = refl })).1 in record { shared = sym r.shared; home = sym r.home };
+      keeps = λ l. let r = (ends l s (record { local = refl; stage = record { cells = refl; sums = refl; adds = refl } })).1 in record { shared = sym r.shared; home = sym r.home };
       runs = λ l t h. let r = ends l t h in (r.0, r.1.run);
     }
 

@@ -32,7 +32,7 @@ sum_closed old new q a e h = record {
   keeps = λ l. record { shared = (h.keeps l).shared; home = (h.keeps l).home };
   leaves = λ l s t.
       let u : Reversing = reversing s.local (record s.stage { sums = later_sums s.stage.sums }) in
-      let r : Stands new (on_stage (added q a) u) = h.leaves l u (record { local = t.local; cells = t.cells; sums = ap later_sums t.sums }) in
-      let f : a ≡ first_sum s.stage.sums = e ∙ sym (ap first_sum t.sums) in
+      let r : Stands new (on_stage (added q a) u) = h.leaves l u (record { local = t.local; stage = record { cells = t.stage.cells; sums = ap later_sums t.stage.sums; adds = t.stage.adds } }) in
+      let f : a ≡ first_sum s.stage.sums = e ∙ sym (ap first_sum t.stage.sums) in
       subst (λ b. Stands new (on_stage (added q b) u)) f r;
 }

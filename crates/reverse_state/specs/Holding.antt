@@ -1,5 +1,5 @@
 -- What a reverse sweep has at hand, and what its steps leave.
-use Rattle.std.specs.Prelude.{◌≡◌, ◌≤◌, ◌+◌, ℕ, zero, suc, Bool, false, List, [], ◌∷◌, length, map, reverse, Option, Some, None}
+use Rattle.std.specs.Prelude.{◌≡◌, ◌≤◌, ◌+◌, ◌%◌, ◌^◌, ℕ, zero, suc, Bool, false, List, [], ◌∷◌, length, map, reverse, Option, Some, None}
 use Rattle.ring_core.specs.Ring.{ring_add}
 use Rattle.operations.specs.declared.op.Op.{Op}
 use Rattle.transposition.specs.Tapes.{Tape, Tapes, tape_at, top, top_tapes}
@@ -9,8 +9,8 @@ use Rattle.reverse_sweep.specs.Reversing.{Sums, Stage, Reversing, reversing, on_
 use Rattle.reverse_state.specs.declared.sums.Sum.{Sum}
 use Rattle.reverse_state.specs.Reading.{TapeReading, now_of, around_of}
 
--- what a reverse sweep has: the number of shared places, the tape, the iteration's own words and those of the loop's entry, the cells, and the
--- sums, the innermost first
+-- what a reverse sweep has: the number of shared places, the tape, the iteration's own words and those of the loop's entry, the cells, the
+-- sums, the innermost first, and a number that counts atomic additions to adjoints modulo 2^64
 pub record Held : Type 0 where
   pub shared : ℕ
   pub reading : TapeReading
@@ -20,6 +20,7 @@ pub record Held : Type 0 where
   pub entry_adjoints : List ℕ
   pub cells : List ℕ
   pub sums : List (ℕ × ℕ)
+  pub adds : ℕ
   -- memory was wanting
   pub lost : Bool
 
@@ -38,11 +39,16 @@ home_by (Some a) xs ys = Some (record { tapes = a.0; entry = record { tape = a.1
 abbrev pub home_of : Held → Option Home
 home_of h = home_by (around_of h.reading) h.entry_values h.entry_adjoints
 
--- the state that it stands for, whatever operations there were
+-- the stage that it stands for, whatever operations there were
+pub record HasStage (h : Held) (g : Stage) : Type 0 where
+  pub cells : g.cells ≡ h.cells
+  pub sums : g.sums ≡ h.sums
+  pub adds : g.adds % 2 ^ 64 ≡ h.adds % 2 ^ 64
+
+-- the state that it stands for
 pub record Stands (h : Held) (s : Reversing) : Type 0 where
   pub local : s.local ≡ local_of h
-  pub cells : s.stage.cells ≡ h.cells
-  pub sums : s.stage.sums ≡ h.sums
+  pub stage : HasStage h s.stage
 
 pub record Keeps (old new : Held) : Type 0 where
   pub shared : new.shared ≡ old.shared
@@ -126,11 +132,12 @@ on_local f s = reversing (f s.local) s.stage
 abbrev pub on_stage : (Stage → Stage) → Reversing → Reversing
 on_stage f s = reversing s.local (f s.stage)
 
--- the cells and the sums stay
+-- the stage stays
 pub record KeepsStage (old new : Held) : Type 0 where
   pub shared : new.shared ≡ old.shared
   pub cells : new.cells ≡ old.cells
   pub sums : new.sums ≡ old.sums
+  pub adds : new.adds ≡ old.adds
   pub lost : new.lost ≡ old.lost
 
 -- a parallel loop whose tapes of iterations are on top is come to

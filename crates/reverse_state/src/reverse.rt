@@ -1,7 +1,7 @@
-ghost use Rattle.std.specs.Prelude.{◌≡◌, ◌<◌, ◌≤◌, ◌+◌, ◌-◌, [], length, replicate, None, Some, false, IfOk};
+ghost use Rattle.std.specs.Prelude.{◌≡◌, ◌<◌, ◌≤◌, ◌+◌, ◌-◌, ◌%◌, ◌^◌, [], length, replicate, None, Some, false, IfOk};
 ghost use Rattle.transposition.specs.Worlds.{Local, is_one_step as is_one_step_lem};
 ghost use Rattle.sweep_evaluation.specs.Machine.{ran};
-ghost use Rattle.reverse_sweep.specs.Reversing.{opened_sum, closed_sum, added, grown, own_value_set, own_adjoint_set, adjoint_loaded, value_stored, adjoint_stored, value_grown, adjoint_grown};
+ghost use Rattle.reverse_sweep.specs.Reversing.{opened_sum, closed_sum, added, grown, counted, own_value_set, own_adjoint_set, adjoint_loaded, value_stored, adjoint_stored, value_grown, adjoint_grown};
 ghost use Rattle.reverse_state.specs.Holding.{Held, home_of, Placed, told_placed, PlacedStands, Gives, Leaves, word_taken, on_local, on_stage, Enters, Begins, Quits};
 
 use crate::reading::Reading;
@@ -29,6 +29,7 @@ pub struct Reverse<C: Cells> {
     entry_values: Vec<u64>,
     entry_adjoints: Vec<u64>,
     sums: Vec<Sum>,
+    adds: u64,
     lost: bool,
 }
 
@@ -46,6 +47,7 @@ impl<C: Cells> Model for Reverse<C> {
       entry_adjoints = r.entry_adjoints.items;
       cells = C.cells r.cells;
       sums = sums_back r.sums.items;
+      adds = r.adds;
       lost = r.lost;
     } };
 
@@ -94,6 +96,13 @@ fn is_one_step(choice: Choice) -> bool
     }
 }
 
+/// A word is below 2^64.
+fn same(word: u64) -> u64
+    ensures { result ≡ word % 2 ^ 64 }
+{
+    word
+}
+
 impl<C: Cells + Drop> Reverse<C> {
     /// A sweep that has done nothing yet, over the cells of `shared` places and so many words of an iteration's own, which are 0.
     pub fn new(
@@ -115,6 +124,7 @@ impl<C: Cells + Drop> Reverse<C> {
           entry_adjoints = replicate own 0;
           cells = C.cells cells;
           sums = [];
+          adds = 0;
           lost = false;
         }) }
     {
@@ -132,6 +142,7 @@ impl<C: Cells + Drop> Reverse<C> {
             entry_values,
             entry_adjoints,
             sums: Vec::new(alloc),
+            adds: 0,
             lost: false,
         })
     }
@@ -143,6 +154,13 @@ impl<C: Cells> Reverse<C> {
         ensures { result ≡ self.now.lost }
     {
         self.lost
+    }
+
+    /// How many atomic additions to adjoints there were, modulo 2^64.
+    pub fn adds(&self) -> u64
+        ensures { result ≡ self.now.adds % 2 ^ 64 }
+    {
+        same(self.adds)
     }
 
     /// The adjoint at a place, 0 where there is none.
@@ -236,6 +254,26 @@ impl<C: Cells> Reverse<C> {
         }
     }
 
+    /// Counts an addition where it is atomic.
+    fn count(&mut self, choice: Choice)
+        ensures { Leaves self.old self.new (on_stage (counted choice)) }
+    {
+        match choice {
+            Choice::Shared => {}
+            Choice::Atomic => self.adds = self.adds.wrapping_add(1),
+            Choice::Reduction => {}
+        }
+    }
+
+    /// Adds to the adjoint at a shared place.
+    fn grow_shared(&mut self, choice: Choice, cell: u32, amount: u64)
+        requires { cell < self.old.shared + self.old.shared }
+        ensures { Leaves self.old self.new (λ s. on_stage (counted choice) (on_stage (grown (is_one_step_lem choice) cell amount) s)) }
+    {
+        self.grow(is_one_step(choice), cell, amount);
+        self.count(choice);
+    }
+
     /// Adds to the adjoint at a place, where there is one.
     pub fn grow_adjoint(&mut self, choice: Choice, amount: u64, place: Option<u32>)
         ensures { Leaves self.old self.new (adjoint_grown self.old.shared choice amount place) }
@@ -244,7 +282,7 @@ impl<C: Cells> Reverse<C> {
             None => {}
             Some(place) => {
                 if place < self.shared {
-                    self.grow(is_one_step(choice), self.shared + place, amount);
+                    self.grow_shared(choice, self.shared + place, amount);
                 } else {
                     add_word(&mut self.adjoints, (place - self.shared) as usize, amount);
                 }
@@ -337,7 +375,8 @@ impl<C: Cells> Reverse<C> {
     }
 
     pub fn into_cells(self) -> C
-        ensures { C.cells result ≡ self.cells }
+        ensures cells { C.cells result ≡ self.cells }
+        ensures doubled { length (C.cells result) ≡ self.shared + self.shared }
     {
         let Reverse { cells, .. } = self;
         cells
