@@ -3,7 +3,7 @@ use Rattle.std.specs.Prelude.{◌≡◌, ℕ, suc, ◌+◌, true, false, refl}
 use Rattle.std.proofs.Common.{subst, ◌∙◌, arith}
 use Rattle.reverse_sweep.specs.Reversing.{Stage, Reversing}
 use Rattle.reverse_sweep.specs.Machine.{turns_undone, iterations_undone}
-use Rattle.reverse_state.specs.Holding.{Held, Home, Stands, Keeps, Leaves}
+use Rattle.reverse_state.specs.Holding.{Held, Home, HasStage, Stands, Keeps, Leaves}
 use Rattle.reverse_state.proofs.Joining.{keeps_both}
 use Rattle.reverse_run.specs.Undoing.{Works}
 
@@ -38,10 +38,10 @@ none_left u v k n f e a = record {
 
 -- memory was wanting, and nothing is said
 pub lost_works : (u v : Held) (f : Home → Stage → Stage) → v.lost ≡ true → Works u v f
-lost_works u v f e = record { before = λ l. cc; keeps = λ l. cc; cells = λ l m h g a b. cc; sums = λ l m h g a b. cc }
+lost_works u v f e = record { before = λ l. cc; keeps = λ l. cc; stage = λ l m h g a. cc }
 
 pub none_worked : (u : Held) → Works u u (λ m g. g)
-none_worked u = record { before = λ l. l; keeps = λ l. record { shared = refl; home = refl }; cells = λ l m h g a b. a; sums = λ l m h g a b. b }
+none_worked u = record { before = λ l. l; keeps = λ l. record { shared = refl; home = refl }; stage = λ l m h g a. a }
 
 -- one iteration more
 pub works_more : (u v w : Held) (k : ℕ) (f : ℕ → Home → ℕ → Stage → Reversing) → Works u v (λ m. iterations_undone k (f u.shared m)) → Works v w (λ m g. (f v.shared m k g).stage)
@@ -51,12 +51,8 @@ works_more u v w k f a b =
     rw s record {
       before = λ l. a.before (b.before l);
       keeps = λ l. keeps_both (a.keeps (b.before l)) (b.keeps l);
-      cells = λ l m h g c d.
+      stage = λ l m h g c.
           let i = b.before l in
           let n : Stage = iterations_undone k (f u.shared m) g in
-          subst (λ j. (f j m k n).stage.cells ≡ w.cells) (a.keeps i).shared (b.cells l m ((a.keeps i).home ∙ h) n (a.cells i m h g c d) (a.sums i m h g c d));
-      sums = λ l m h g c d.
-          let i = b.before l in
-          let n : Stage = iterations_undone k (f u.shared m) g in
-          subst (λ j. (f j m k n).stage.sums ≡ w.sums) (a.keeps i).shared (b.sums l m ((a.keeps i).home ∙ h) n (a.cells i m h g c d) (a.sums i m h g c d));
+          subst (λ j. HasStage w (f j m k n).stage) (a.keeps i).shared (b.stage l m ((a.keeps i).home ∙ h) n (a.stage i m h g c));
     }

@@ -1,5 +1,5 @@
 -- Statements that are undone: choices, iterations, and parallel loops.
-use Rattle.std.specs.Prelude.{◌≡◌, ◌<◌, ◌≤◌, ℕ, zero, suc, Bool, true, false, List, [], ◌∷◌, length, slice_index_or, Option, Some, None, is_some, refl}
+use Rattle.std.specs.Prelude.{◌≡◌, ◌<◌, ◌≤◌, ◌%◌, ◌^◌, ℕ, zero, suc, Bool, true, false, List, [], ◌∷◌, length, slice_index_or, Option, Some, None, is_some, refl}
 use Rattle.std.proofs.Common.{rules, ap, sym, subst, ◌∙◌, arith}
 use Rattle.std.proofs.lemmas.Bool.{and_parts}
 use Rattle.resolved.specs.SlotTables.{Names}
@@ -11,7 +11,7 @@ use Rattle.sweep_steps.specs.declared.step.Flow.TheVariants as flow
 use Rattle.undo_steps.specs.UndoSteps.{UndoStep, UndoArm, undo_choice, UndoTrees, undo_tree, undo_trees, undo_arm_tree, undo_arm_trees}
 use Rattle.reverse_sweep.specs.Reversing.{Stage, Reversing, reversing, on_tape, popped}
 use Rattle.reverse_sweep.specs.Machine.{Counts, undo_run, undos_run, arm_run, variables_set, privates_refilled, privates_cleared, opened_sums, closed_sums, count_of, iteration_undone, iterations_undone, parallel_undone}
-use Rattle.reverse_state.specs.Holding.{Held, Home, home_of, local_of, Stands, Keeps, Gives, Leaves, word_taken, on_stage, Enters, Begins, Quits}
+use Rattle.reverse_state.specs.Holding.{Held, Home, home_of, local_of, HasStage, Stands, Keeps, KeepsStage, Gives, Leaves, word_taken, on_stage, Enters, Begins, Quits}
 use Rattle.reverse_state.proofs.Joining.{gives_leaves, leaves_both, leaves_by}
 use Rattle.reverse_run.specs.Undoing.{is_flat, are_flat, are_arms_flat, is_within, counts_taken, Works}
 
@@ -77,6 +77,9 @@ other_chosen u v w names x line arms other i q h d b =
 
 -- ---- iterations
 
+stage_kept : (old new : Held) (g : Stage) → KeepsStage old new → HasStage old g → HasStage new g
+stage_kept old new g k h = record { cells = h.cells ∙ sym k.cells; sums = h.sums ∙ sym k.sums; adds = h.adds ∙ sym (ap (λ (n : ℕ). n % 2 ^ 64) k.adds) }
+
 pub iteration_worked : (u v w x y : Held) (names : Names) (counts : Counts) (k : ℕ) (ps : List PrivateScalar) (qs : List ℕ) (us : UndoTrees) → Begins k u v
     → Leaves v w (λ s. reversing (privates_cleared v.shared ps (privates_refilled v.shared ps (variables_set v.shared counts k s.local))) (opened_sums v.shared qs s.stage))
     → Leaves w x (undos_run names w.shared us) → Leaves x y (on_stage (closed_sums x.shared qs))
@@ -86,15 +89,14 @@ iteration_worked u v w x y names counts k ps qs us b p d e =
     leaves_both {u = v} {v = w} {w = y} (λ n s. reversing (privates_cleared n ps (privates_refilled n ps (variables_set n counts k s.local))) (opened_sums n qs s.stage)) (λ n s. on_stage (closed_sums n qs) (undos_run names n us s)) p
     (leaves_both {u = w} {v = x} {w = y} (λ n. undos_run names n us) (λ n. on_stage (closed_sums n qs)) d e)
     in
-    let at : y.lost ≡ false → (m : Home) → home_of u ≡ Some m → (g : Stage) → g.cells ≡ u.cells → g.sums ≡ u.sums → Stands y (iteration_undone u.shared ps qs counts m.tapes (undos_run names u.shared us) m.entry k g) = λ l m h g c f.
+    let at : y.lost ≡ false → (m : Home) → home_of u ≡ Some m → (g : Stage) → HasStage u g → Stands y (iteration_undone u.shared ps qs counts m.tapes (undos_run names u.shared us) m.entry k g) = λ l m h g c.
     subst (λ n. Stands y (iteration_undone n ps qs counts m.tapes (undos_run names n us) m.entry k g)) b.stage.shared
-    (L.leaves l (reversing (on_tape (tape_at m.tapes k) m.entry) g) (record { local = sym (b.local m h); cells = c ∙ sym b.stage.cells; sums = f ∙ sym b.stage.sums }))
+    (L.leaves l (reversing (on_tape (tape_at m.tapes k) m.entry) g) (record { local = sym (b.local m h); stage = stage_kept u v g b.stage c }))
     in
     record {
       before = λ l. sym b.stage.lost ∙ L.before l;
       keeps = λ l. record { shared = (L.keeps l).shared ∙ b.stage.shared; home = (L.keeps l).home ∙ b.home };
-      cells = λ l m h g c f. (at l m h g c f).cells;
-      sums = λ l m h g c f. (at l m h g c f).sums;
+      stage = λ l m h g c. (at l m h g c).stage;
     }
 
 outside_home : (o : Option Home) → is_some o ≡ false → o ≡ None
@@ -122,12 +124,10 @@ loop_worked u v w x y names places counts ps qs us out d e f q =
           let r = d.runs (lv l) s h in
           let g : Stage = s.stage in
           let m : Home = home_from (local_of v) in
-          let c : g.cells ≡ w.cells = r.1.cells ∙ sym e.stage.cells in
-          let t : g.sums ≡ w.sums = r.1.sums ∙ sym e.stage.sums in
+          let c : HasStage w g = stage_kept v w g e.stage r.1.stage in
           let a : Stands y (reversing m.entry (iterations_undone (count_of counts) (iteration_undone w.shared ps qs counts m.tapes (undos_run names w.shared us) m.entry) g)) = record {
             local = sym (q.local m ((f.keeps (lx l)).home ∙ e.home));
-            cells = f.cells (lx l) m e.home g c t ∙ sym q.stage.cells;
-            sums = f.sums (lx l) m e.home g c t ∙ sym q.stage.sums;
+            stage = stage_kept x y (iterations_undone (count_of counts) (iteration_undone w.shared ps qs counts m.tapes (undos_run names w.shared us) m.entry) g) q.stage (f.stage (lx l) m e.home g c);
           } in
           let b = subst (λ n. Stands y (reversing m.entry (iterations_undone (count_of counts) (iteration_undone n ps qs counts m.tapes (undos_run names n us) m.entry) g))) (shared l) a in
           let i = subst (λ p. Stands y (reversing (home_from p).entry (iterations_undone (count_of counts) (iteration_undone u.shared ps qs counts (home_from p).tapes (undos_run names u.shared us) (home_from p).entry) g))) (sym r.1.local) b in

@@ -8,7 +8,7 @@ use Rattle.reverse_sweep.specs.Reversing.{Stage, Reversing, reversing, on_tape}
 use Rattle.resolved.specs.SlotTables.{Names}
 use Rattle.transposition.specs.Tapes.{Tape}
 use Rattle.reverse_sweep.specs.Machine.{Counts, bounds_on, below_words, counts_on, below_counts, undos_run}
-use Rattle.reverse_state.specs.Holding.{Held, Home, home_of, Keeps}
+use Rattle.reverse_state.specs.Holding.{Held, Home, home_of, HasStage, Keeps}
 use Rattle.reverse_run.specs.declared.bounds.Round.{Round}
 use Rattle.reverse_run.specs.declared.bounds.Rounds.{Rounds}
 use Rattle.reverse_run.specs.declared.bounds.Rounds.TheVariants as rounds
@@ -69,19 +69,22 @@ abbrev pub HaveNumbers : Rounds → Type 0
 HaveNumbers (rounds.One only) = HasNumbers only.turns
 HaveNumbers (rounds.Two outer inner) = HasNumbers outer.turns × HasNumbers inner.turns
 
--- what iterations leave of the cells and the sums, the loop's entry being m
+-- what iterations leave of the stage, the loop's entry being m
 pub record Works (old new : Held) (f : Home → Stage → Stage) : Type 0 where
   pub before : new.lost ≡ false → old.lost ≡ false
   pub keeps : new.lost ≡ false → Keeps old new
-  pub cells : new.lost ≡ false → (m : Home) → home_of old ≡ Some m → (g : Stage) → g.cells ≡ old.cells → g.sums ≡ old.sums → (f m g).cells ≡ new.cells
-  pub sums : new.lost ≡ false → (m : Home) → home_of old ≡ Some m → (g : Stage) → g.cells ≡ old.cells → g.sums ≡ old.sums → (f m g).sums ≡ new.sums
+  pub stage : new.lost ≡ false → (m : Home) → home_of old ≡ Some m → (g : Stage) → HasStage old g → HasStage new (f m g)
 
 -- ---- programs
 
 -- what a program's reverse sweep begins with: a tape, so many words of an iteration's own, which are 0, and cells
 abbrev pub opening : Tape → ℕ → List ℕ → Reversing
-opening t own c = reversing (record { tape = t; values = replicate own 0; adjoints = replicate own 0 }) (record { cells = c; sums = []; ops = [] })
+opening t own c = reversing (record { tape = t; values = replicate own 0; adjoints = replicate own 0 }) (record { cells = c; sums = []; ops = []; adds = 0 })
 
 -- the cells after all statements are undone
 abbrev pub swept_back : Names → ℕ → UndoTrees → Tape → ℕ → List ℕ → List ℕ
 swept_back names n us t own c = (undos_run names n us (opening t own c)).stage.cells
+
+-- how many atomic additions to adjoints there were
+abbrev pub swept_adds : Names → ℕ → UndoTrees → Tape → ℕ → List ℕ → ℕ
+swept_adds names n us t own c = (undos_run names n us (opening t own c)).stage.adds

@@ -12,4 +12,4 @@ mod sweep;
 pub use laws::standing_is_flat;
 pub use statements::undo_all;
 pub use stores::undo_store;
-pub use sweep::sweep_back;
+pub use sweep::{SweptBack, sweep_back};
