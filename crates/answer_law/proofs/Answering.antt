@@ -1,5 +1,5 @@
 -- What the reverse sweep leaves is what is answered, name by name.
-use Rattle.std.proofs.Common.{◌≡◌, inl, inr, ℕ, zero, suc, ◌+◌, ◌-◌, ◌<◌, ◌≤◌, ◌^◌, Bool, true, false, List, [], ◌∷◌, ◌++◌, All, map, length, take, drop, find, bytes_eq, get_or, replicate, Option, Some, None, Result, Ok, Err, refl, ap, sym, subst, ◌∙◌, arith, length-append, length-drop}
+use Rattle.std.proofs.Common.{◌≡◌, inl, inr, ℕ, zero, suc, ◌+◌, ◌-◌, ◌<◌, ◌≤◌, ◌^◌, Bool, true, false, List, [], ◌∷◌, ◌++◌, All, map, length, take, drop, find, bytes_eq, get_or, replicate, Some, Result, Ok, Err, refl, ap, sym, ◌∙◌, arith, length-append, length-drop}
 use Rattle.std.specs.Prelude.{slice_index}
 use Rattle.std.proofs.Math.Seq.{take-append_seam, drop-append_seam}
 use Rattle.std.proofs.lemmas.Bool.{and_parts, or_left, or_right, cases_lt}
@@ -8,9 +8,8 @@ use Rattle.ring_core.specs.declared.ring.Width.{Width}
 use Rattle.ring_core.specs.declared.ring.Width.TheVariants.{Bits8, Bits16, Bits64}
 use Rattle.fl_ast.specs.declared.decl.Decl.{Decl}
 use Rattle.fl_ast.specs.declared.stmt.Program.{Program}
-use Rattle.fl_ast.specs.Tree.{Statements, Subroutine, stmt_trees, program_tree}
+use Rattle.fl_ast.specs.Tree.{Subroutine, stmt_trees, program_tree}
 use Rattle.fl_types.specs.Sharing.{has_name, is_ring_name}
-use Rattle.fl_types.specs.Supported.{is_ring_argument}
 use Rattle.store_core.specs.declared.layout.Shape.{Shape}
 use Rattle.store_core.specs.declared.values.Args.{Args}
 use Rattle.store_core.specs.declared.values.Entry.{Entry}
@@ -50,13 +49,13 @@ use Rattle.sound_programs.specs.Uses.{outer_use, all_keep_variables}
 use Rattle.sound_programs.specs.Accepted.{IsAccepted, world_of_program, made_choices}
 use Rattle.sound_programs.proofs.Inactive.{inactive_zero}
 use Rattle.sound_programs.proofs.Layouts.{extra, extra_keys, plain_key}
-use Rattle.sound_programs.proofs.Lists.{at_test, itself, in_right, has_in}
+use Rattle.sound_programs.proofs.Lists.{itself, in_right, has_in}
 use Rattle.sound_programs.proofs.Programs.{all_fit, places_suffice}
 use Rattle.run_law.specs.Machine.{names_in, machine_cells}
 use Rattle.run_law.proofs.Machines.{made_machine}
 use Rattle.answers.specs.Runs.{shown_word, shown_at, values_of, adjoints_of}
-use Rattle.answers.specs.Sweeps.{end_words, forward_run, seeded_cells, reverse_entry, opening_local, own_count, quiet_words, quiet_entry}
-use Rattle.answer_law.specs.Answered.{cells_back, AreSmall, AreAmong, IsBack, IsAnswered, MadeIsAnswered}
+use Rattle.answers.specs.Sweeps.{end_words, forward_run, seeded_cells, reverse_entry, opening_local, quiet_words, quiet_entry}
+use Rattle.answer_law.specs.Answered.{cells_back, AreSmall, AreAmong, IsBack, MadeIsAnswered}
 use Rattle.answer_law.proofs.Words.{name_left, named_map, named_same, named_zeros}
 use Rattle.answer_law.proofs.Opening.{places_small, words_and_zeros, zero_at, unseeded, has_value, entry_along, seed_more, length-numbers, numbered, word_here, words_along}
 

@@ -1,5 +1,5 @@
 -- What is read from a file: its numbers are words, and its names are those that are asked for.
-use Rattle.std.proofs.Common.{◌≡◌, ℕ, zero, suc, ◌<◌, ◌^◌, ◌==◌, ℤ, pos, negsuc, Bool, true, false, cond, if◌then◌else◌, bytes_eq, List, [], ◌∷◌, ◌++◌, All, map, find, IfSome, Option, Some, None, option_map, option_and_then, nat_lt, slice_index, drop, refl, ap, sym, subst, ◌∙◌, arith, neg_ℤ}
+use Rattle.std.proofs.Common.{◌≡◌, ℕ, zero, suc, ◌^◌, ◌==◌, pos, Bool, true, false, cond, if◌then◌else◌, bytes_eq, List, [], ◌∷◌, All, map, find, IfSome, Option, Some, None, option_map, option_and_then, nat_lt, slice_index, drop, refl, ap, sym, subst, ◌∙◌, arith}
 use Rattle.std.proofs.Common.{Ordering, Less, Equal, Greater}
 use Rattle.std.specs.Int.{w64, cast_unsigned}
 use Rattle.std.specs.Ordering.{nat_cmp, match_ordering}
@@ -12,15 +12,15 @@ use Rattle.fast_float.specs.Text.{Parts, with_sign, digits_of, minus, scan}
 use Rattle.json.specs.Json as json
 use Rattle.json.specs.Lex.{tokens}
 use Rattle.serde_json.specs.Data.{Num, unsigned, negative, float, Data, null, boolean, number, string, array, object, Items, no_items, item, Members, no_members, member, put}
-use Rattle.serde_json.specs.Find.{get, get_member, as_array, as_i64}
+use Rattle.serde_json.specs.Find.{get, get_member}
 use Rattle.serde_json.specs.Read.{float_of, number_from, number_of, of_json, of_items, of_members, max_depth, read}
 use Rattle.fl_ast.specs.declared.decl.Decl.{Decl}
 use Rattle.fl_types.specs.Sharing.{has_name}
 use Rattle.store_core.specs.declared.values.Entry.{Entry}
 use Rattle.store_core.specs.Places.{declaration_of, is_empty}
-use Rattle.data_io.specs.DataFaults.{list_of, found, or_zero, word_of, word_at, list_words, words_at, scalar_entry, array_entry, entry_of, on_declared, name_entries, entries_of}
-use Rattle.sound_programs.proofs.Lists.{at_test, never, same_name, itself}
-use Rattle.answer_law.specs.Answered.{AreSmall, ReadWordsAreSmall, SeedsAreAsked}
+use Rattle.data_io.specs.DataFaults.{list_of, found, or_zero, word_of, word_at, words_at, scalar_entry, array_entry, entry_of, on_declared, name_entries, entries_of}
+use Rattle.sound_programs.proofs.Lists.{at_test, same_name, itself}
+use Rattle.answer_law.specs.Answered.{ReadWordsAreSmall, SeedsAreAsked}
 use Rattle.answer_law.proofs.Opening.{IsSmall, none_small, one_more, zero_small}
 
 -- ---- numbers that are read
