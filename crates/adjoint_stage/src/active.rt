@@ -27,12 +27,7 @@ fn misfit_refused(alloc: Global, error: ActivityError) -> Early
 }
 
 /// The active names of a program, or the refusal of the first name that is asked for and is no argument of the ring kind.
-pub fn active_of(
-    alloc: Global,
-    typed: &Typed,
-    of: &[Name],
-    wrt: &[Name],
-) -> Result<NameSet, Early>
+pub fn active_of(alloc: Global, typed: &Typed, of: &[Name], wrt: &[Name]) -> Result<NameSet, Early>
     ensures part { IsPart (λ _. tt {0}) (asked_stage typed.now of.now wrt.now) result }
     ensures active { IfOk result (λ set. AreActive typed.now of.now wrt.now set.names) }
     ensures fits { IfOk result (λ _. first_misfit typed.now of.now wrt.now ≡ None) }

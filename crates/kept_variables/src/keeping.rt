@@ -23,7 +23,9 @@ fn lists(name: &Name, stmt: &Stmt) -> bool
             lists_in_arms(name, arms.as_slice()) || lists_in(name, other.as_slice())
         }
         Stmt::Do {
-            directive, body, ..
+            directive,
+            body,
+            ..
         } => match directive {
             None => lists_in(name, body.as_slice()),
             Some(directive) => {

@@ -3,4 +3,7 @@
 
 mod laws;
 
-pub use laws::{adds_are_counted, iteration_is_played, machine_is_transposed, program_adds_are_counted, program_is_named, reverse_is_played, serial_adds_are_counted};
+pub use laws::{
+    adds_are_counted, iteration_is_played, machine_is_transposed, program_adds_are_counted,
+    program_is_named, reverse_is_played, serial_adds_are_counted,
+};

@@ -1,5 +1,5 @@
 -- How adjoints are incremented in each parallel loop, by name and by slot.
-use Rattle.std.specs.Prelude.{◌≡◌, ℕ, zero, suc, ◌+◌, max, ◌&&◌, nat_eq, Bool, List, [], ◌∷◌, ◌++◌, map}
+use Rattle.std.specs.Prelude.{◌≡◌, ℕ, zero, suc, ◌+◌, max, ◌&&◌, nat_eq, Bool, if◌then◌else◌, List, [], ◌∷◌, ◌++◌, map}
 use Rattle.fl_ast.specs.Tree.{Subroutine}
 use Rattle.fl_types.specs.declared.choice.Choice.{Choice}
 use Rattle.fl_types.specs.declared.choice.Chosen.{Chosen}
