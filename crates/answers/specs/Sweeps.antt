@@ -1,8 +1,8 @@
 -- What `run` answers for every program: the values that the program ends with, and the transposed derivative applied to the weights; and
 -- what its two sweeps begin with.
-use Rattle.std.specs.Prelude.{ℕ, ◌-◌, Bool, true, false, List, [], ◌++◌, map, length, replicate, None}
+use Rattle.std.specs.Prelude.{ℕ, ◌-◌, ◌%◌, ◌^◌, Bool, true, false, List, [], ◌++◌, map, length, replicate, None}
 use Rattle.fl_ast.specs.declared.stmt.Program.{Program}
-use Rattle.fl_ast.specs.Tree.{program_tree}
+use Rattle.fl_ast.specs.Tree.{program_tree, stmt_trees}
 use Rattle.fl_types.specs.declared.choice.Chosen.{Chosen}
 use Rattle.store_core.specs.declared.layout.Shape.{Shape}
 use Rattle.store_core.specs.declared.values.Args.{Args}
@@ -17,6 +17,7 @@ use Rattle.meaning.specs.Programs.{meaning, words_after}
 use Rattle.transposition.specs.Programs.{program_world}
 use Rattle.transposition.specs.Tapes.{Tape, empty, tape_after}
 use Rattle.transposition.specs.Worlds.{World, Local}
+use Rattle.reverse_law.specs.Adds.{adds_of_all}
 use Rattle.adjoint_choices.specs.Choosing.{choices_of}
 use Rattle.adjoint_sets.specs.Names.{is_active, is_needed}
 use Rattle.loop_choices.specs.Choosing.{choice_in}
@@ -94,5 +95,11 @@ run_answer program shapes args weights of wrt adds = record {
   race = None;
 }
 
-unfoldable pub run_text : Program → List Shape → Args → Weights → (of wrt : List (List ℕ)) → (adds : ℕ) → List ℕ
-run_text program shapes args weights of wrt adds = text_of (run_answer program shapes args weights of wrt adds)
+-- how many atomic additions to adjoints the reverse sweep makes, modulo 2^64
+abbrev pub adds_of : Program → List Shape → Args → Weights → (of wrt : List (List ℕ)) → ℕ
+adds_of program shapes args weights of wrt =
+    adds_of_all (stmt_trees program.body) (reverse_world program shapes of wrt (run_choices program of wrt)) (reverse_entry program shapes args of wrt)
+    (seeded_cells program shapes args weights of wrt) % 2 ^ 64
+
+unfoldable pub run_text : Program → List Shape → Args → Weights → (of wrt : List (List ℕ)) → List ℕ
+run_text program shapes args weights of wrt = text_of (run_answer program shapes args weights of wrt (adds_of program shapes args weights of wrt))

@@ -9,57 +9,10 @@ use Rattle.ending.specs.Plan.{Plan, Answers, LeadsTo, answered}
 use Rattle.ending.proofs.Done.{said_undone, answer_done}
 use Rattle.formad_words.specs.declared.words.Subject.{Subject}
 use Rattle.formad_words.specs.declared.words.Replay.{Replay}
-use Rattle.formad_words.specs.declared.words.Request.{Request}
-use Rattle.program_stage.proofs.ProgramDone.{subject_done, supported_subject_done}
-use Rattle.data_stages.proofs.DataDone.{args_done, seed_done, unread_undone, certificate_done, layout_done}
-use Rattle.store_core.specs.Places.{shapes_of}
-use Rattle.commands.specs.declared.inputs.Inputs.{Inputs}
-use Rattle.commands.specs.Done.{AreInputs, IsRun}
+use Rattle.program_stage.proofs.ProgramDone.{subject_done}
+use Rattle.data_stages.proofs.DataDone.{args_done, seed_done, unread_undone}
 use Rattle.commands.specs.Plans.{load_stage}
-use Rattle.commands.specs.Runs.{data_stage, inputs_stage, answer_text}
 use Rattle.commands.specs.Unbuilt.{subject_only, check_stage, steps_stage, force_stage, replay_stage}
-
--- the inputs that a run has read
-pub inputs_done : {files : Files} (request : Request) (rest : Inputs → Plan) {status : Status} {text : List ℕ} → LeadsTo files (inputs_stage request rest) status text → status ≡ Done →
-    (inputs : Inputs) × AreInputs files request inputs × LeadsTo files (rest inputs) status text
-unfolding inputs_stage data_stage
-inputs_done request rest c h =
-    let subject = supported_subject_done request.program request.of request.wrt _ c h in
-    let args = args_done request.data subject.0 _ subject.3 h in
-    let seed = seed_done request.seed subject.0 args.1 request.of _ args.4 h in
-    let placed = certificate_done request.certificate _ seed.4 h in
-    let last = layout_done subject.0 args.1 _ placed h in (
-      record { typed = subject.0; args = args.1; weights = seed.1; layout = shapes_of subject.0 args.1.entries },
-      record {
-        source = subject.1.source;
-        bytes = args.0;
-        seed = seed.0;
-        program_file = subject.1.found;
-        accepted = subject.1.accepted;
-        supported = subject.2;
-        dependent = subject.1.dependent;
-        independent = subject.1.independent;
-        data_file = args.2;
-        are_args = args.3;
-        seed_file = seed.2;
-        are_weights = seed.3;
-        places = refl;
-      },
-      last,
-    )
-
--- a run whose inputs were found, from its text and its count of statements
-pub run_done : {files : Files} (request : Request) (found : Inputs) (text : List ℕ) (before after : ℕ) →
-    Continues {T = Inputs} (λ inputs. inputs) files (inputs_stage request) (Ok found) → text ≡ answer_text request found → after ≡ before + length found.typed.body →
-    IsRun files request text before after
-run_done {files = files} request found text before after told wrote ticked =
-    let rest : Inputs → Plan = λ inputs. Answers (length inputs.typed.body ∷ answer_text request inputs) in
-    let led : LeadsTo files (inputs_stage request rest) Done (length found.typed.body ∷ answer_text request found) = told rest Done _ answered in
-    let done = inputs_done request rest led refl in
-    let same : length done.0.typed.body ∷ answer_text request done.0 ≡ length found.typed.body ∷ answer_text request found = answer_done done.2 in
-    let count : length done.0.typed.body ≡ length found.typed.body = cc in
-    let words : answer_text request done.0 ≡ answer_text request found = cc in
-    record { inputs = done.0; given = done.1; wrote = words ∙ sym wrote; ticked = ticked ∙ ap (λ n. before + n) (sym count) }
 
 pub describe_undone : {files : Files} (subject : Subject) {status : Status} {text : List ℕ} → LeadsTo files (subject_only subject Answers) status text → status ≡ Done → ⊥
 unfolding subject_only

@@ -2,6 +2,5 @@ pub mod AdjointDone
 pub mod CertificateDone
 pub mod CommandsDone
 pub mod Lengths
-pub mod Shown
 pub mod TangentDone
 pub mod TangentText

@@ -6,7 +6,7 @@ use Rattle.formad_words.specs.declared.words.Words.TheVariants as words
 use Rattle.program_stage.specs.Lines.{not_built_plan}
 use Rattle.adjoint_stage.specs.Adjoints.{adjoint_stage}
 use Rattle.certificate_stages.specs.Certificates.{certificate_stage}
-use Rattle.commands.specs.Runs.{run_stage}
+use Rattle.run_stages.specs.Runs.{run_stage}
 use Rattle.commands.specs.Tangents.{tangent_stage}
 use Rattle.commands.specs.Unbuilt.{subject_only, check_stage, replay_stage}
 

@@ -1,12 +1,10 @@
 -- The order of refusals of `tangent`, and its answer.
-use Rattle.std.specs.Prelude.{ℕ, List, ◌++◌, codes, decimal, Some, None}
+use Rattle.std.specs.Prelude.{ℕ, List, Some, None}
 use Rattle.ending.specs.declared.verdict.Verdict.TheVariants as verdict
 use Rattle.ending.specs.Plan.{Plan, Says, Wants, Saying}
 use Rattle.fl_ast.specs.declared.stmt.Program.{Program}
 use Rattle.fl_ast.specs.Tree.{program_tree}
 use Rattle.store_core.specs.Filled.{place_words}
-use Rattle.meaning.specs.declared.value.Cause.{Cause}
-use Rattle.meaning.specs.declared.value.Cause.TheVariants.{Range, ZeroDivisor, Bounds, Unset}
 use Rattle.meaning.specs.declared.value.TrapAt.{TrapAt}
 use Rattle.meaning.specs.Logs.{Traced}
 use Rattle.meaning.specs.Sites.{Cells}
@@ -19,6 +17,7 @@ use Rattle.program_stage.specs.Programs.{program_stage}
 use Rattle.data_stages.specs.Files.{args_stage, direction_stage}
 use Rattle.data_stages.specs.Layouts.{layout_stage}
 use Rattle.answers.specs.Tangents.{tangent_text}
+use Rattle.run_stages.specs.Stops.{cause_text, trap_line, statements_line}
 use Rattle.commands.specs.declared.directed.Directed.{Directed}
 
 -- the program, the data file, the direction file, the number of places
@@ -29,18 +28,6 @@ directed_stage program values direction rest =
     direction_stage direction typed args (λ along.
     layout_stage typed args (λ layout.
     rest (record { typed = typed; args = args; direction = along; layout = layout })))))
-
-abbrev pub cause_text : Cause → List ℕ
-cause_text Range = codes "range"
-cause_text ZeroDivisor = codes "zero divisor"
-cause_text (Bounds name) = codes "bounds " ++ name
-cause_text (Unset name) = codes "unset " ++ name
-
-abbrev pub trap_line : ℕ → List ℕ → List ℕ
-trap_line line phrase = codes "trap line " ++ decimal line ++ codes " " ++ phrase ++ codes "\n"
-
-abbrev pub statements_line : List ℕ
-statements_line = codes "limit statements 16777216\n"
 
 -- what is said of a run that ended early
 abbrev pub say_run : RunStop → Saying

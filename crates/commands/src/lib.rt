@@ -2,15 +2,10 @@
 #![tactic(auto)]
 
 mod adjoint;
-mod answer;
 mod directed;
-mod inputs;
 mod outcome;
 mod prove;
-mod run;
-mod stop;
 mod tangent;
 mod unbuilt;
-mod widths;
 
 pub use outcome::outcome_of;

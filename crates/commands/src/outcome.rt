@@ -6,7 +6,6 @@ ghost use Rattle.commands.specs.Plans.{command_stage};
 
 use crate::adjoint::adjoint;
 use crate::prove::prove;
-use crate::run::run;
 use crate::tangent::tangent;
 use crate::unbuilt::{check, describe, replay};
 use ending::Early;
@@ -14,6 +13,7 @@ use formad_words::Words;
 use outside::Folder;
 use program_stage::not_built;
 use ring_core::Steps;
+use run_stages::load_run;
 use std::alloc::Global;
 use std::sync::ledger::Ledger;
 
@@ -41,7 +41,7 @@ pub fn outcome_of<F: Folder, L: Ledger>(
             data,
             direction,
         } => tangent(alloc, folder, program, data, direction, steps),
-        Words::Run(request) => run(alloc, folder, request, steps),
+        Words::Run(request) => load_run(alloc, folder, request, steps),
         Words::Replay(request) => replay(alloc, folder, request),
         Words::Load { .. } => Err(not_built(alloc)),
     }

@@ -1,6 +1,6 @@
 ghost use Rattle.std.specs.Prelude.{◌≡◌, ◌+◌, ◌++◌, ◌≤◌, ◌^◌, [], ◌∷◌, length, IfOk, OnOk, Some};
 ghost use Rattle.outside.specs.States.{Files};
-ghost use Rattle.ending.specs.Stage.{IsPart, IsStage};
+ghost use Rattle.ending.specs.Stage.{IsPart, IsSaying, IsStage};
 ghost use Rattle.store_core.specs.Keys.{keys_of};
 ghost use Rattle.store_core.specs.Places.{shapes_of};
 ghost use Rattle.meaning.specs.Stops.{at_end};
@@ -11,18 +11,17 @@ ghost use Rattle.serde_json.specs.Data.{object};
 ghost use Rattle.serde_json.specs.Written.{compact_text};
 ghost use Rattle.data_io.specs.Written.{tangent_members};
 ghost use Rattle.commands.specs.Done.{IsTangentOf};
-ghost use Rattle.commands.specs.Tangents.{stop_stage, tangent_stage, directed_meaning, directed_text};
+ghost use Rattle.commands.specs.Tangents.{say_run, stop_stage, tangent_stage, directed_meaning, directed_text};
 
 use crate::directed::{Directed, prepare};
-use crate::stop::stopped;
-use crate::widths::shown_by_width;
 use data_io::write_tangent;
-use dual_meaning::Tangents;
+use dual_meaning::{RunStop, Tangents};
 use ending::Early;
 use fl_base::{Items, Memory, Name};
 use fl_types::Typed;
 use outside::Folder;
 use ring_core::Steps;
+use run_stages::{shown_by_width, statements_said, trap_said};
 use std::alloc::Global;
 use std::sync::ledger::Ledger;
 use store_core::Weights;
@@ -38,6 +37,17 @@ fn ring_arguments(alloc: Global, typed: &Typed) -> Result<Items<Name>, Memory>
         }
     }
     Ok(names)
+}
+
+/// What is said of a run that ended early.
+fn stopped(alloc: Global, stop: RunStop) -> Early
+    ensures { IsSaying (say_run stop) result }
+{
+    match stop {
+        RunStop::Trap(trap) => trap_said(alloc, trap),
+        RunStop::Statements => statements_said(alloc),
+        RunStop::Memory => Early::Memory,
+    }
 }
 
 /// Runs a program from its arguments in a direction.

@@ -5,6 +5,8 @@
 mod tests;
 pub mod top;
 mod words;
+#[cfg(test)]
+mod worked;
 
 ghost use Rattle.std.specs.Prelude.{◌≡◌, ◌<◌};
 

@@ -23,15 +23,15 @@ const MANY: &[u8] =
     b"subroutine many(x, y, z)\n  integer(kind=8) :: x, y, z\n  y = x*x\n  x = y*x\n  y = x + y*3\n  z = -(x - 2)*y\n  x = 7\nend subroutine many\n";
 
 /// A file of a folder: its name, and its bytes.
-type File = (&'static [u8], &'static [u8]);
+pub(crate) type File = (&'static [u8], &'static [u8]);
 
 /// A call: its words, its files, the number of the take that fails (0 for none), and what comes of it.
-struct Call {
-    words: &'static [&'static [u8]],
-    files: &'static [File],
-    fails: u64,
-    status: Status,
-    text: &'static [u8],
+pub(crate) struct Call {
+    pub words: &'static [&'static [u8]],
+    pub files: &'static [File],
+    pub fails: u64,
+    pub status: Status,
+    pub text: &'static [u8],
 }
 
 fn push_file(files: &mut Vec<(Name, Vec<u8>)>, alloc: Global, file: &File) -> Result<(), Memory> {
@@ -102,7 +102,7 @@ fn expect_call<R: Threads + Sync + Abort>(rt: &R, alloc: Global, row: &Call) -> 
     Ok(())
 }
 
-fn expect_calls<R: Threads + Sync + Abort>(
+pub(crate) fn expect_calls<R: Threads + Sync + Abort>(
     rt: &R,
     alloc: Global,
     rows: &[Call],

@@ -1,3 +1,1 @@
-pub mod Placed
-pub mod Bodies
-pub mod Sweeps
+pub mod Backward

@@ -1,7 +1,6 @@
-//! A whole sweep on one thread: the values that a program ends with, and the adjoints of all places.
+//! The reverse part of a run on one thread, from what its forward sweep left.
 #![tactic(auto)]
 
-mod body;
-mod program;
+mod back;
 
-pub use program::{Swept, sweep};
+pub use back::{Ran, run_back};

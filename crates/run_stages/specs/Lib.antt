@@ -1,0 +1,4 @@
+pub mod Stops
+pub mod Runs
+pub mod Given
+pub mod Done
