@@ -1,5 +1,5 @@
--- What `run` answers for a program without parallel loops, which is all that is built so far.
-use Rattle.std.specs.Prelude.{ℕ, List, [], ◌∷◌, ◌++◌, map, None}
+-- What answers show of words, and the text of an answer.
+use Rattle.std.specs.Prelude.{ℕ, List, [], ◌∷◌, ◌++◌, map}
 use Rattle.std.specs.Int.{w64, cast_unsigned}
 use Rattle.serde_json.specs.Data.{object}
 use Rattle.serde_json.specs.Written.{compact_text}
@@ -32,19 +32,6 @@ values_of program shapes args = final_words (program_tree program) shapes (place
 abbrev pub adjoints_of : Program → List Shape → Args → Weights → List ℕ
 adjoints_of program shapes args weights = adjoint_words (program_tree program) shapes (place_words shapes args.entries) (place_words shapes weights.entries)
 
--- without parallel loops nothing is chosen, and nothing is added atomically
-abbrev pub run_answer : Program → List Shape → Args → Weights → (of wrt : List (List ℕ)) → Answer
-run_answer program shapes args weights of wrt = record {
-  adds = 0;
-  adjoint = shown_at program shapes (adjoints_of program shapes args weights) wrt;
-  value = shown_at program shapes (values_of program shapes args) of;
-  choices = record { entries = [] };
-  race = None;
-}
-
 -- an answer's compact JSON, and a line feed
 abbrev pub text_of : Answer → List ℕ
 text_of answer = compact_text (object (members answer)) ++ 10 ∷ []
-
-unfoldable pub run_text : Program → List Shape → Args → Weights → (of wrt : List (List ℕ)) → List ℕ
-run_text program shapes args weights of wrt = text_of (run_answer program shapes args weights of wrt)
