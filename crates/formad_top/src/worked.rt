@@ -263,7 +263,7 @@ static RUNS: [Call; 19] = [
         ],
         fails: 0,
         status: Status::Done,
-        text: b"{\"adds\":2,\"adjoint\":{\"x\":[4,6]},\"choices\":[\"1:x:atomic\"],\"value\":{\"y\":[13,0]}}\n",
+        text: b"{\"adds\":4,\"adjoint\":{\"x\":[4,6]},\"choices\":[\"1:x:atomic\"],\"value\":{\"y\":[13,0]}}\n",
     },
     Call {
         words: BY_X_S_OF_S,
@@ -285,7 +285,7 @@ static RUNS: [Call; 19] = [
         ],
         fails: 0,
         status: Status::Done,
-        text: b"{\"adds\":8,\"adjoint\":{\"x\":[32,1080]},\"choices\":[\"1:x:atomic\"],\"value\":{\"x\":[16,81]}}\n",
+        text: b"{\"adds\":8,\"adjoint\":{\"x\":[32,1080]},\"choices\":[\"2:x:atomic\"],\"value\":{\"x\":[16,81]}}\n",
     },
     Call {
         words: BY_X_OF_X,
