@@ -11,7 +11,7 @@ use Rattle.reachability.specs.Reached.{Edge, IsAmong, AreWithin}
 use Rattle.reachability.specs.Named.{index_in, link_between, link_in, links_of, IsReachedName}
 use Rattle.reachability.proofs.Positions.{kept_by, kept_from}
 use Rattle.reachability.proofs.Listed.{links_within}
-use Rattle.fl_types.specs.Supported.{is_ring_argument}
+use Rattle.fl_types.specs.Declarations.{is_ring_argument}
 use Rattle.activity.specs.declared.set.ActivityError.{ActivityError}
 use Rattle.activity.specs.declared.set.ActivityError.TheVariants.{NotRing, Memory}
 use Rattle.activity.specs.Active.{IsCause, AreActive, program_flows, turned, turned_link, misfit_among, first_misfit}

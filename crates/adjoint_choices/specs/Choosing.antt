@@ -13,7 +13,7 @@ use Rattle.fl_types.specs.declared.sharing.Sharing.{Sharing}
 use Rattle.fl_types.specs.declared.sharing.Sharing.TheVariants.{Shared, Private, First, Plus, LoopVar}
 use Rattle.fl_types.specs.Increment.{increment_terms}
 use Rattle.fl_types.specs.Sharing.{sharing_in, assigns_in, ParallelLoop, loops_of_all}
-use Rattle.fl_types.specs.Supported.{is_scalar}
+use Rattle.fl_types.specs.Declarations.{is_scalar}
 use Rattle.adjoint_rules.specs.Needed.{Kinds, kinds_of}
 use Rattle.adjoint_rules.specs.Occurrences.{Occurrence, assignment_occurrences}
 

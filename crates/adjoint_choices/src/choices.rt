@@ -3,7 +3,7 @@
 ghost use Rattle.std.specs.Prelude.{◌≡◌, ◌++◌, ◌&&◌, not, ◌∷◌, [], if◌then◌else◌, IfOk, OnOk, flat_map};
 ghost use Rattle.fl_ast.specs.Tree.{stmt_tree, stmt_trees, arm_trees};
 ghost use Rattle.fl_types.specs.Sharing.{has_name as has_name_lem, is_ring_name, sharing_in, assigns_in as assigns_in_lem};
-ghost use Rattle.fl_types.specs.Supported.{is_scalar as is_scalar_lem};
+ghost use Rattle.fl_types.specs.Declarations.{is_scalar as is_scalar_lem};
 ghost use Rattle.adjoint_choices.specs.Choosing as rules;
 ghost use Rattle.adjoint_choices.specs.Walked as spec;
 ghost use Rattle.adjoint_choices.specs.Settings as settings;

@@ -10,7 +10,7 @@ use Rattle.fl_ast.specs.declared.stmt.Program.{Program}
 use Rattle.fl_ast.specs.Tree.{Statements, stmt_trees}
 use Rattle.fl_ast.specs.AdjointTree.{AdjointStatement}
 use Rattle.fl_types.specs.Sharing.{has_name, is_ring_kind, varies_in, loops_of_all, ParallelLoop, is_private, sharing_in}
-use Rattle.fl_types.specs.Supported.{is_scalar}
+use Rattle.fl_types.specs.Declarations.{is_scalar}
 use Rattle.adjoint_rules.specs.OwnNames.{adjoint_name, scalar, k_name, w_name, t_name}
 use Rattle.adjoint_rules.specs.Clauses.{with_adjoint, bound_names, loop_numbers_in}
 use Rattle.adjoint_rules.specs.Expressions.{cleared}

@@ -7,7 +7,7 @@ use Rattle.ending.specs.Plan.{Plan, Says, LeadsTo, line}
 use Rattle.ending.specs.Stage.{IsPart, IsSaying}
 use Rattle.ending.proofs.Follow.{says_part, wants}
 use Rattle.fl_ast.specs.declared.stmt.Program.{Program}
-use Rattle.fl_types.specs.Supported.{is_ring_argument}
+use Rattle.fl_types.specs.Declarations.{is_ring_argument}
 use Rattle.activity.specs.declared.set.ActivityError.{ActivityError}
 use Rattle.activity.specs.declared.set.ActivityError.TheVariants.{NotRing, Memory}
 use Rattle.activity.specs.Active.{misfit_among, first_misfit, IsCause}

@@ -3,7 +3,7 @@ use Rattle.std.specs.Prelude.{ℕ, ◌+◌, ◌≡◌, true, List, Option, Some,
 use Rattle.std.specs.List.{list_all}
 use Rattle.outside.specs.States.{Files}
 use Rattle.fl_ast.specs.declared.stmt.Program.{Program}
-use Rattle.fl_types.specs.Supported.{is_ring_argument}
+use Rattle.fl_types.specs.Declarations.{is_ring_argument}
 use Rattle.store_core.specs.Places.{shapes_of}
 use Rattle.meaning.specs.Stops.{at_end}
 use Rattle.dual_meaning.specs.Runs.{stop_of, ticks_of}

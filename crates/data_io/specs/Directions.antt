@@ -2,7 +2,7 @@
 use Rattle.std.specs.Prelude.{ℕ, Bool, ◌&&◌, cond, is_some, List, [], ◌∷◌, flat_map}
 use Rattle.serde_json.specs.Data.{Data}
 use Rattle.fl_ast.specs.declared.stmt.Program.{Program}
-use Rattle.fl_types.specs.Supported.{is_ring_argument}
+use Rattle.fl_types.specs.Declarations.{is_ring_argument}
 use Rattle.store_core.specs.declared.values.Args.{Args}
 use Rattle.store_core.specs.declared.values.Direction.{Direction}
 use Rattle.data_io.specs.declared.data.DataError.{DataError}

@@ -1,4 +1,3 @@
 pub mod Lists
 pub mod Increments
-pub mod Straight
 pub mod Classes

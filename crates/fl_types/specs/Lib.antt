@@ -1,5 +1,4 @@
-pub mod Supported
-pub mod Straight
+pub mod Declarations
 pub mod Increment
 pub mod Sharing
 pub mod Nests

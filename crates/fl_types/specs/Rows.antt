@@ -16,7 +16,7 @@ use Rattle.fl_types.specs.Increment.{Signed, increment_terms}
 use Rattle.fl_types.specs.Kinds.{kind_of_name, kind_of_expression, kinds_of_expressions, is_index_kind, has_declared_rank, declared_names}
 use Rattle.fl_types.specs.Nests.{Head, is_one_loop, inner_head}
 use Rattle.fl_types.specs.Sharing.{has_name, is_ring_name, varies_in, assigns_in}
-use Rattle.fl_types.specs.Supported.{is_declared, is_reserved}
+use Rattle.fl_types.specs.Declarations.{is_declared, is_reserved}
 use Rattle.fl_types.specs.WellTyped.{declaration_of, is_argument_if_array, is_scalar_declared, is_index_scalar_argument, is_local_scalar, is_local_index_scalar, is_ring_scalar, is_read_only_argument, bytes_of_data, has_bytes}
 use Rattle.fl_types.specs.Mentions.{Region, Surroundings, Ending, a_value, an_index, an_assignment, Mention, the_unit, an_argument, a_declared, a_bounding, a_listed, a_directive, a_variable, a_target, a_use, a_number, an_exponent, mentions}
 

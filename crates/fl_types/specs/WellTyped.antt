@@ -14,7 +14,7 @@ use Rattle.fl_ast.specs.Readable.{IsReadable, listed_names}
 use Rattle.fl_ast.specs.Tree.{stmt_trees}
 use Rattle.fl_types.specs.Kinds.{declared_names, are_well_kinded_statements}
 use Rattle.fl_types.specs.Sharing.{has_name, is_ring_kind, is_ring_name, varies_in, assigns_in, ParallelLoop, loops_of_all}
-use Rattle.fl_types.specs.Supported.{all_apart, are_declared, is_declared, is_read_only, is_reserved, is_scalar}
+use Rattle.fl_types.specs.Declarations.{all_apart, are_declared, is_declared, is_read_only, is_reserved, is_scalar}
 
 -- ---- declarations
 

@@ -2,11 +2,11 @@
 #![tactic(auto)]
 
 mod access;
+mod arguments;
 mod choice;
 mod increment;
 mod nests;
 mod sharing;
-mod supported;
 mod surface;
 mod typed;
 

@@ -1,7 +1,7 @@
 ghost use Rattle.std.specs.Prelude.{◌≡◌};
 
 use crate::sharing::Sharing;
-use crate::supported::{is_ring_argument, is_supported};
+use crate::arguments::is_ring_argument;
 use crate::surface::{bytes_of_data, class_within_all, kind_declared};
 use fl_ast::{Kind, Name, Program};
 use std::fmt;
@@ -108,7 +108,7 @@ impl Model for Typed {
 }
 
 impl Typed {
-    ghost use Rattle.fl_types.specs.Supported.{is_supported as is_supported_lem, is_ring_argument as is_ring_argument_lem};
+    ghost use Rattle.fl_types.specs.Declarations.{is_ring_argument as is_ring_argument_lem};
     ghost use Rattle.fl_ast.specs.Tree.{stmt_trees};
     ghost use Rattle.fl_types.specs.Sharing.{sharing_of as sharing_of_lem};
     ghost use Rattle.fl_types.specs.Surface.{HasLoop, kind_of as kind_of_lem};
@@ -127,13 +127,6 @@ impl Typed {
         ensures typed { IsTyped self.now }
     {
         &self.program
-    }
-
-    /// Whether the program is a straight line that `run` can answer so far.
-    pub fn is_supported(&self) -> bool
-        ensures { result ≡ is_supported_lem self.now }
-    {
-        is_supported(&self.program)
     }
 
     /// Whether the name is an argument of the ring kind.

@@ -5,7 +5,7 @@ use Rattle.std.proofs.lemmas.Slice.Eq.{bytes_eq-Decides}
 use Rattle.std.specs.Bool.{one_answer}
 use Rattle.fl_ast.specs.declared.decl.Decl.{Decl}
 use Rattle.fl_types.specs.Kinds.{has_declared_rank}
-use Rattle.fl_types.specs.Supported.{is_declared}
+use Rattle.fl_types.specs.Declarations.{is_declared}
 use Rattle.fl_types.specs.WellTyped.{declaration_of}
 
 turned : (x y : List ℕ) → bytes_eq x y ≡ bytes_eq y x

@@ -6,7 +6,7 @@ ghost use Rattle.fl_ast.specs.Tree.{stmt_trees};
 ghost use Rattle.fl_types.specs.Kinds.{has_declared_rank};
 ghost use Rattle.fl_types.specs.Rows.{is_varying as is_varying_lem, is_private_name as is_private_name_lem, is_private_within_all};
 ghost use Rattle.fl_types.specs.Sharing as sharing;
-ghost use Rattle.fl_types.specs.Supported.{is_declared as is_declared_lem};
+ghost use Rattle.fl_types.specs.Declarations.{is_declared as is_declared_lem};
 ghost use Rattle.fl_types.specs.WellTyped.{declaration_of};
 
 use crate::declared::Declared;

@@ -1,4 +1,3 @@
 pub mod NamesLaws
 pub mod ProgramDone
-pub mod Supporting
 pub mod Typing

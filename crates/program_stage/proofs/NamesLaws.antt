@@ -9,7 +9,7 @@ use Rattle.ending.specs.Plan.{Plan, Says, LeadsTo, line}
 use Rattle.ending.proofs.Follow.{says_part}
 use Rattle.ending.specs.Stage.{IsPart, IsSaid}
 use Rattle.fl_ast.specs.declared.stmt.Program.{Program}
-use Rattle.fl_types.specs.Supported.{is_ring_argument}
+use Rattle.fl_types.specs.Declarations.{is_ring_argument}
 use Rattle.program_stage.specs.Names.{names_stage}
 
 opened : (program : Program) (names : List (List ℕ)) (i : ℕ) (name : List ℕ) (rest : Unit {0} → Plan) → i < length names → name ≡ get_or names i name →

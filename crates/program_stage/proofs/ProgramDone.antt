@@ -12,13 +12,12 @@ use Rattle.fl_ast.specs.declared.stmt.Program.{Program}
 use Rattle.fl_lexer.specs.Reading.{lexed}
 use Rattle.fl_parser.specs.Parsed.{parsed}
 use Rattle.fl_types.specs.Rows.{judged}
-use Rattle.fl_types.specs.Supported.{is_ring_argument, is_supported}
+use Rattle.fl_types.specs.Declarations.{is_ring_argument}
 use Rattle.program_stage.specs.Accepted.{IsProgramOf}
-use Rattle.program_stage.specs.Lines.{not_built_plan}
 use Rattle.program_stage.specs.Lexing.{say_lex, lexed_stage}
 use Rattle.program_stage.specs.Names.{names_stage}
 use Rattle.program_stage.specs.Parsing.{say_parse, parsed_stage}
-use Rattle.program_stage.specs.Programs.{source_stage, program_stage, subject_stage, supported_stage, supported_subject}
+use Rattle.program_stage.specs.Programs.{source_stage, program_stage, subject_stage}
 use Rattle.program_stage.specs.Typing.{say_type, typed_stage}
 
 pub program_done : {files : Files} (file : List ℕ) (rest : Program → Plan) {status : Status} {text : List ℕ} → LeadsTo files (program_stage file rest) status text → status ≡ Done →
@@ -61,17 +60,3 @@ subject_done file of wrt rest c h =
     let dependent = names_done typed.1 of _ typed.4 h in
     let independent = names_done typed.1 wrt _ dependent.1 h in
     (typed.1, record { source = typed.0; found = typed.2; accepted = typed.3; dependent = dependent.0; independent = independent.0 }, independent.1)
-
-supported_done : {files : Files} (test : Bool) (plan : Plan) {status : Status} {text : List ℕ} →
-    LeadsTo files (if test then plan else not_built_plan) status text → status ≡ Done → (test ≡ true) × LeadsTo files plan status text
-supported_done true plan c h = (refl, c)
-supported_done false plan c h = absurd (said_undone c h)
-
-pub supported_subject_done : {files : Files} (file : List ℕ) (of wrt : List (List ℕ)) (rest : Program → Plan) {status : Status} {text : List ℕ} →
-    LeadsTo files (supported_subject file of wrt rest) status text → status ≡ Done →
-    (program : Program) × IsSubject files file of wrt program × (is_supported program ≡ true) × LeadsTo files (rest program) status text
-unfolding supported_subject supported_stage
-supported_subject_done file of wrt rest c h =
-    let subject = subject_done file of wrt _ c h in
-    let test = supported_done (is_supported subject.0) (rest subject.0) subject.2 h in
-    (subject.0, subject.1, test.0, test.1)

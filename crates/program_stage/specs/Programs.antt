@@ -1,9 +1,7 @@
 -- The program file, and the names that a derivative is taken of and by.
-use Rattle.std.specs.Prelude.{ℕ, List, codes, if◌then◌else◌}
+use Rattle.std.specs.Prelude.{ℕ, List, codes}
 use Rattle.ending.specs.Plan.{Plan, Asks}
 use Rattle.fl_ast.specs.declared.stmt.Program.{Program}
-use Rattle.fl_types.specs.Supported.{is_supported}
-use Rattle.program_stage.specs.Lines.{not_built_plan}
 use Rattle.program_stage.specs.Lexing.{lexed_stage}
 use Rattle.program_stage.specs.Names.{names_stage}
 use Rattle.program_stage.specs.Parsing.{parsed_stage}
@@ -26,10 +24,3 @@ subject_stage file of wrt rest =
     program_stage file (λ program.
     names_stage program of (λ _.
     names_stage program wrt (λ _. rest program)))
-
--- what is run so far
-unfoldable pub supported_stage : Program → (Unit {0} → Plan) → Plan
-supported_stage program rest = if is_supported program then rest tt else not_built_plan
-
-unfoldable pub supported_subject : (file : List ℕ) (of wrt : List (List ℕ)) → (Program → Plan) → Plan
-supported_subject file of wrt rest = subject_stage file of wrt (λ program. supported_stage program (λ _. rest program))

@@ -9,5 +9,5 @@ mod syntax;
 mod types;
 mod unbuilt;
 
-pub use program::{load_program, load_subject, load_supported};
+pub use program::{load_program, load_subject};
 pub use unbuilt::not_built;

@@ -1,14 +1,12 @@
-ghost use Rattle.std.specs.Prelude.{◌≡◌, ◌≤◌, ◌^◌, true, Ok, length, IfOk};
+ghost use Rattle.std.specs.Prelude.{◌≡◌, ◌≤◌, ◌^◌, Ok, length, IfOk};
 ghost use Rattle.ending.specs.Stage.{IsPart, IsStage};
 ghost use Rattle.fl_types.specs.Rows.{judged};
-ghost use Rattle.fl_types.specs.Supported.{is_supported};
-ghost use Rattle.program_stage.specs.Programs.{source_stage, program_stage, subject_stage, supported_subject};
+ghost use Rattle.program_stage.specs.Programs.{source_stage, program_stage, subject_stage};
 
 use crate::lexing::tokens_of;
 use crate::names::check_names;
 use crate::syntax::program_of;
 use crate::types::typed_of;
-use crate::unbuilt::check_supported;
 use ending::{Early, take_file};
 use fl_base::Name;
 use fl_types::Typed;
@@ -48,21 +46,5 @@ pub fn load_subject<F: Folder>(
     let typed = load_program(alloc, folder, file)?;
     check_names(alloc, &typed, of)?;
     check_names(alloc, &typed, wrt)?;
-    Ok(typed)
-}
-
-/// The same of a program that can be run so far.
-pub fn load_supported<F: Folder>(
-    alloc: Global,
-    folder: &mut F,
-    file: &Name,
-    of: &[Name],
-    wrt: &[Name],
-) -> Result<Typed, Early>
-    ensures stage { IsStage (λ typed. typed) (F.state folder.old) (F.state folder.new) (supported_subject file.now of.now wrt.now) result }
-    ensures supported { IfOk result (λ typed. is_supported typed ≡ true) }
-{
-    let typed = load_subject(alloc, folder, file, of, wrt)?;
-    check_supported(alloc, &typed)?;
     Ok(typed)
 }

@@ -13,7 +13,7 @@ use Rattle.fl_types.specs.declared.sharing.Sharing.{Sharing}
 use Rattle.fl_types.specs.declared.sharing.Sharing.TheVariants.{Shared, Private, First, Plus, LoopVar}
 use Rattle.fl_types.specs.Nests.{is_nest, iteration_body, inner_body}
 use Rattle.fl_types.specs.Sharing.{sharing_in, has_name, is_private, is_plus, varies_in}
-use Rattle.fl_types.specs.Supported.{is_reserved}
+use Rattle.fl_types.specs.Declarations.{is_reserved}
 use Rattle.adjoint_rules.specs.OwnNames.{adjoint_name}
 use Rattle.adjoint_rules.specs.Scopes.{Scope, has_choice, is_reduction}
 use Rattle.adjoint_rules.specs.Clauses.{private_names, is_first, privates_of, firsts_of, clauses_with, forward_clauses, backward_clauses, bound_names, scratch_names, loop_numbers_in}

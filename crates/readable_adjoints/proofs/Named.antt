@@ -10,7 +10,7 @@ use Rattle.std.proofs.lemmas.Fmt.{decimal_by_steps, length-decimal-le, decimal_i
 use Rattle.fl_base.specs.Spelling.{is_name, is_name_byte, is_small_letter}
 use Rattle.fl_ast.specs.Words.{reserved_words}
 use Rattle.fl_ast.specs.Readable.{is_variable, counts_up_from}
-use Rattle.fl_types.specs.Supported.{is_reserved}
+use Rattle.fl_types.specs.Declarations.{is_reserved}
 use Rattle.adjoint_rules.specs.OwnNames.{adjoint_name, lo_name, hi_name, by_name}
 use Rattle.adjoint_rules.specs.Clauses.{bound_names, scratch_names}
 use Rattle.readable_adjoints.proofs.Every.{Every, every_append, every_flat, every_is}

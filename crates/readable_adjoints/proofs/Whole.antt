@@ -16,7 +16,7 @@ use Rattle.fl_ast.specs.Measures.{nodes_of_all, arm_nodes, statement_nodes, node
 use Rattle.fl_ast.specs.Readable.{is_variable, is_readable_decl, is_readable_dim, is_size_of, counts_up_from, IsReadable}
 use Rattle.fl_types.specs.declared.choice.Chosen.{Chosen}
 use Rattle.fl_types.specs.Sharing.{is_ring_kind}
-use Rattle.fl_types.specs.Supported.{is_declared, is_reserved}
+use Rattle.fl_types.specs.Declarations.{is_declared, is_reserved}
 use Rattle.fl_types.specs.WellTyped.{IsTyped}
 use Rattle.adjoint_rules.specs.OwnNames.{adjoint_name, scalar, k_name, w_name, t_name}
 use Rattle.adjoint_rules.specs.Expressions.{cleared}

@@ -10,7 +10,7 @@ use Rattle.fl_ast.specs.AdjointTree.{adjoint_tree, astmt_trees}
 use Rattle.fl_ast.specs.ReadableAdjoint.{IsReadableAdjoint, deepest_in_adjoints}
 use Rattle.fl_types.specs.declared.choice.Chosen.{Chosen}
 use Rattle.fl_types.specs.Sharing.{sharing_in, is_private}
-use Rattle.fl_types.specs.Supported.{is_declared}
+use Rattle.fl_types.specs.Declarations.{is_declared}
 use Rattle.fl_types.specs.WellTyped.{IsTyped}
 use Rattle.adjoint_rules.specs.Scopes.{has_choice, is_reduction}
 use Rattle.adjoint_rules.specs.Adjoint.{adjoint_of}

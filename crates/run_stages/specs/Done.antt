@@ -2,7 +2,7 @@
 use Rattle.std.specs.Prelude.{ℕ, ◌+◌, ◌≡◌, true, List, Option, Some, Ok}
 use Rattle.std.specs.List.{list_all}
 use Rattle.outside.specs.States.{Files}
-use Rattle.fl_types.specs.Supported.{is_ring_argument}
+use Rattle.fl_types.specs.Declarations.{is_ring_argument}
 use Rattle.store_core.specs.Places.{shapes_of}
 use Rattle.meaning.specs.Stops.{by_conflict, at_end}
 use Rattle.forward_run.specs.Swept.{stop_in}

@@ -7,7 +7,7 @@ use Rattle.fl_types.specs.declared.choice.Choice.{Choice}
 use Rattle.fl_types.specs.Increment.{Signed, target_of, increment_terms}
 use Rattle.fl_types.specs.Kinds.{kind_of_name, kind_of_expression, takes_operands, takes_value, is_well_kinded, is_well_kinded_assignment, declared_names}
 use Rattle.fl_types.specs.Sharing.{is_ring_name}
-use Rattle.fl_types.specs.Supported.{is_declared}
+use Rattle.fl_types.specs.Declarations.{is_declared}
 use Rattle.fl_types.specs.Mentions.{Region}
 use Rattle.reachability.specs.Reached.{Edge, IsAmong}
 use Rattle.activity.specs.Active.{edge_to, flows_to}

@@ -10,7 +10,7 @@ use Rattle.fl_ast.specs.declared.stmt.Program.{Program}
 use Rattle.fl_ast.specs.Tree.{stmt_trees, program_tree}
 use Rattle.fl_types.specs.declared.choice.Choice.TheVariants.{Atomic}
 use Rattle.fl_types.specs.Sharing.{has_name}
-use Rattle.fl_types.specs.Supported.{is_declared, is_ring_argument}
+use Rattle.fl_types.specs.Declarations.{is_declared, is_ring_argument}
 use Rattle.store_core.specs.Keys.{scalar}
 use Rattle.store_core.specs.Places.{shapes_of}
 use Rattle.meaning.specs.declared.value.Value.{Value}

@@ -7,7 +7,7 @@ use Rattle.std.proofs.lemmas.List.Folds.{list_any-append}
 use Rattle.std.proofs.lemmas.List.Concat.{flat_map-append}
 use Rattle.fl_ast.specs.declared.decl.Decl.{Decl}
 use Rattle.fl_types.specs.Sharing.{has_name}
-use Rattle.fl_types.specs.Supported.{all_apart}
+use Rattle.fl_types.specs.Declarations.{all_apart}
 use Rattle.store_core.specs.declared.layout.Shape.{Shape}
 use Rattle.store_core.specs.Keys.{subscripts_of, keys_of_shape, keys_of, same_key, first_at, laid_all, scalar, with_scalars}
 use Rattle.meaning.specs.Sites.{Key}

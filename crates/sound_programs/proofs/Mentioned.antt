@@ -6,7 +6,7 @@ use Rattle.fl_ast.specs.declared.stmt.Program.{Program}
 use Rattle.fl_ast.specs.Tree.{Expression, literal, get, minus, binary, power, call, Expressions, no_expressions, expression, Designator}
 use Rattle.fl_types.specs.Kinds.{expression_count, has_declared_rank}
 use Rattle.fl_types.specs.Sharing.{has_name}
-use Rattle.fl_types.specs.Supported.{is_declared}
+use Rattle.fl_types.specs.Declarations.{is_declared}
 use Rattle.fl_types.specs.WellTyped.{is_local_index_scalar, is_read_only_argument}
 use Rattle.fl_types.specs.Mentions as m
 use Rattle.fl_types.specs.Mentions.{Region, Surroundings, Ending, a_value, an_index, an_assignment, Mention, a_variable, a_target, a_use}

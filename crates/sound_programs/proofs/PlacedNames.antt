@@ -9,7 +9,7 @@ use Rattle.fl_ast.specs.declared.decl.Decl.{Decl}
 use Rattle.fl_ast.specs.declared.stmt.Program.{Program}
 use Rattle.fl_ast.specs.Tree.{Statement, assignment, branch, loop, Statements, no_statements, statement, Arms, no_arms, arm, stmt_trees}
 use Rattle.fl_types.specs.Sharing.{has_name, varies, varies_in, varies_in_arms, ParallelLoop, loops_of, loops_of_all, loops_of_arms}
-use Rattle.fl_types.specs.Supported.{is_declared, is_scalar}
+use Rattle.fl_types.specs.Declarations.{is_declared, is_scalar}
 use Rattle.fl_types.specs.WellTyped.{are_declared_once, is_argument_if_array, is_local_scalar, is_index_declared, has_fair_clauses, IsTyped}
 use Rattle.fl_types.specs.Mentions.{in_statements, at_unit}
 use Rattle.store_core.specs.declared.bound.Axis.{Axis}

@@ -14,7 +14,7 @@ use Rattle.fl_types.specs.declared.choice.Choice.TheVariants.{Shared}
 use Rattle.fl_types.specs.declared.typed.TypeError.{TypeError}
 use Rattle.fl_types.specs.Kinds.{Names, declared_names, kind_of_name, is_index_kind, is_index_scalar, is_index_expression, is_index_step, has_scalar_privates, is_well_kinded_condition, is_well_kinded_head, is_well_kinded_statement, are_well_kinded_statements, are_well_kinded_arms}
 use Rattle.fl_types.specs.Sharing.{has_name, is_ring_kind, is_ring_name, varies, varies_in, varies_in_arms}
-use Rattle.fl_types.specs.Supported.{is_declared, is_ring_argument}
+use Rattle.fl_types.specs.Declarations.{is_declared, is_ring_argument}
 use Rattle.fl_types.specs.WellTyped.{is_scalar_declared}
 use Rattle.fl_types.specs.Mentions.{the_unit, mentions, in_args, in_decls, in_statements, at_unit}
 use Rattle.fl_types.specs.Rows.{first_fault, refused_by, judged, is_varying}

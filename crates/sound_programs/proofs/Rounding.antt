@@ -9,7 +9,7 @@ use Rattle.fl_ast.specs.Tree.{assignment, branch, loop, Statements, no_statement
 use Rattle.fl_types.specs.declared.sharing.Sharing.TheVariants.{Shared, Private, First, Plus, LoopVar}
 use Rattle.fl_types.specs.Nests.{is_nest, inner_head, inner_body, iteration_body}
 use Rattle.fl_types.specs.Sharing.{has_name, varies_in, sharing_in, is_accessed, is_private, makes_accesses, loops_of_all}
-use Rattle.fl_types.specs.Supported.{is_declared}
+use Rattle.fl_types.specs.Declarations.{is_declared}
 use Rattle.fl_types.specs.Mentions as m
 use Rattle.fl_types.specs.Mentions.{Surroundings, Region}
 use Rattle.fl_types.specs.Rows.{is_varying}

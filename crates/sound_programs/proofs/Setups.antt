@@ -7,7 +7,7 @@ use Rattle.fl_ast.specs.declared.stmt.Program.{Program}
 use Rattle.fl_ast.specs.Tree.{Expression, Condition, Statement, assignment, branch, loop, Statements, no_statements, statement, Arms, no_arms, arm, stmt_trees}
 use Rattle.fl_types.specs.declared.choice.Choice.{Choice}
 use Rattle.fl_types.specs.Sharing.{has_name, is_ring_name, varies, varies_in, varies_in_arms, assigns, assigns_in, assigns_in_arms}
-use Rattle.fl_types.specs.Supported.{is_declared}
+use Rattle.fl_types.specs.Declarations.{is_declared}
 use Rattle.fl_types.specs.Mentions.{Region}
 use Rattle.fl_types.specs.Rows.{is_varying, is_private_name, is_private_within, is_private_within_all, is_private_within_arms, is_own_in}
 use Rattle.store_core.specs.declared.layout.Shape.{Shape}

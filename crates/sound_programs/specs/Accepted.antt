@@ -6,7 +6,7 @@ use Rattle.fl_ast.specs.Tree.{stmt_trees, program_tree}
 use Rattle.fl_types.specs.declared.choice.Choice.{Choice}
 use Rattle.fl_types.specs.Rows.{judged}
 use Rattle.fl_types.specs.Sharing.{has_name, ParallelLoop, loops_of_all}
-use Rattle.fl_types.specs.Supported.{is_declared}
+use Rattle.fl_types.specs.Declarations.{is_declared}
 use Rattle.store_core.specs.Keys.{keys_of, same_key, first_at}
 use Rattle.store_core.specs.declared.values.Entry.{Entry}
 use Rattle.store_core.specs.Places.{shapes_of}

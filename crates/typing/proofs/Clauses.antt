@@ -9,7 +9,7 @@ use Rattle.fl_ast.specs.declared.stmt.Program.{Program}
 use Rattle.fl_ast.specs.Readable.{listed_names}
 use Rattle.fl_ast.specs.Tree.{Statement, assignment, branch, loop, Statements, no_statements, statement, Arms, no_arms, arm}
 use Rattle.fl_types.specs.Sharing.{has_name, ParallelLoop, loops_of, loops_of_all, loops_of_arms}
-use Rattle.fl_types.specs.Supported.{is_declared}
+use Rattle.fl_types.specs.Declarations.{is_declared}
 use Rattle.fl_types.specs.WellTyped.{declaration_of, is_scalar_declared, is_index_declared, is_local_scalar, is_local_index_scalar, is_ring_scalar, has_fair_clauses}
 use Rattle.fl_types.specs.Mentions as m
 use Rattle.fl_types.specs.Mentions.{Region, Surroundings, a_listed, a_directive, a_variable}

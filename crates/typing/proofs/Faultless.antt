@@ -7,7 +7,7 @@ use Rattle.fl_ast.specs.declared.stmt.Program.{Program}
 use Rattle.fl_types.specs.declared.typed.TypeError.{TypeError}
 use Rattle.fl_types.specs.Kinds.{has_declared_rank}
 use Rattle.fl_types.specs.Sharing.{has_name}
-use Rattle.fl_types.specs.Supported.{is_declared}
+use Rattle.fl_types.specs.Declarations.{is_declared}
 use Rattle.fl_types.specs.WellTyped.{is_local_index_scalar, is_read_only_argument}
 use Rattle.fl_types.specs.Mentions.{Surroundings, Ending, Mention, a_variable, a_target, a_use, a_number, an_exponent}
 use Rattle.fl_types.specs.Rows.{when, faults_at, is_varying, kinds_differ, divides_data, is_data_as_index}

@@ -10,7 +10,7 @@ use Rattle.fl_types.specs.declared.typed.TypeError.{TypeError}
 use Rattle.fl_types.specs.Increment.{increment_terms}
 use Rattle.fl_types.specs.Kinds.{has_declared_rank}
 use Rattle.fl_types.specs.Sharing.{has_name, is_ring_name}
-use Rattle.fl_types.specs.Supported.{is_declared, is_reserved}
+use Rattle.fl_types.specs.Declarations.{is_declared, is_reserved}
 use Rattle.fl_types.specs.WellTyped.{is_argument_if_array, is_index_scalar_argument, is_local_scalar, is_local_index_scalar, is_ring_scalar, is_read_only_argument, bytes_of_data, has_bytes}
 use Rattle.fl_types.specs.Mentions.{Region, Surroundings, Ending, the_unit, an_argument, a_declared, a_bounding, a_listed, a_directive, a_variable, a_target, a_use, a_number, an_exponent}
 use Rattle.fl_types.specs.Rows.{when, faults_at, is_varying, is_private_in, is_private_name, is_first_in, is_plus_in, is_name_of, is_no_terms, is_increment_of, is_unlisted_in, kinds_differ, divides_data, is_data_as_index, is_bad_atomic, is_bad_nest}

@@ -14,7 +14,7 @@ use Rattle.fl_ast.specs.Readable.{is_readable, are_readable, is_readable_step, i
 use Rattle.fl_ast.specs.Tree.{Expression, Expressions, no_expressions, expression, Designator, Statement, assignment, branch, loop, Statements, no_statements, statement, Arms, no_arms, arm}
 use Rattle.fl_types.specs.Kinds.{kind_of_name, is_index_kind, expression_count, has_declared_rank, takes_value, is_index_scalar, has_scalar_privates, is_well_kinded_assignment, is_well_kinded_statement, are_well_kinded_statements, are_well_kinded_arms}
 use Rattle.fl_types.specs.Sharing.{has_name, is_ring_kind, is_ring_name, varies, varies_in, varies_in_arms, assigns, assigns_in, assigns_in_arms}
-use Rattle.fl_types.specs.Supported.{is_declared, is_scalar}
+use Rattle.fl_types.specs.Declarations.{is_declared, is_scalar}
 use Rattle.fl_types.specs.WellTyped.{are_declared_once, declaration_of, is_scalar_declared, is_index_declared, is_local_scalar, is_local_index_scalar, is_read_only_argument}
 use Rattle.fl_types.specs.Mentions as m
 use Rattle.fl_types.specs.Mentions.{Region, Surroundings, Ending, an_assignment, a_target, a_variable, a_listed, a_directive}

@@ -10,7 +10,7 @@ use Rattle.fl_ast.specs.declared.stmt.Program.{Program}
 use Rattle.fl_ast.specs.Readable.{IsReadable}
 use Rattle.fl_ast.specs.Tree.{Statements, stmt_trees}
 use Rattle.fl_types.specs.Sharing.{has_name, varies_in, assigns_in}
-use Rattle.fl_types.specs.Supported.{all_apart, are_declared, declares, is_declared, is_reserved}
+use Rattle.fl_types.specs.Declarations.{all_apart, are_declared, declares, is_declared, is_reserved}
 use Rattle.fl_types.specs.WellTyped.{are_declared_once, dim_names, is_argument_if_array, is_index_scalar_argument, is_local_index_scalar, is_read_only_argument, bytes_of_data, has_bytes, has_fair_shape, is_fair_if_varying, is_kept_if_read_only, IsTyped}
 use Rattle.fl_types.specs.Mentions as m
 use Rattle.fl_types.specs.Mentions.{Mention, the_unit, an_argument, a_declared, a_bounding, mentions}

@@ -18,7 +18,7 @@ use Rattle.fl_ast.specs.Tree.{Expression, literal, get, minus, binary, power, ca
 use Rattle.fl_types.specs.Increment.{increment_terms}
 use Rattle.fl_types.specs.Kinds.{kind_of_name, kinds_of_expressions, is_index_kind, has_declared_rank, declared_names, expression_count}
 use Rattle.fl_types.specs.Sharing.{has_name, is_ring_name}
-use Rattle.fl_types.specs.Supported.{is_declared, is_reserved}
+use Rattle.fl_types.specs.Declarations.{is_declared, is_reserved}
 use Rattle.fl_types.specs.WellTyped.{declaration_of, is_argument_if_array, is_scalar_declared, is_index_scalar_argument, is_local_scalar, is_local_index_scalar, is_ring_scalar, is_read_only_argument, bytes_of_data, has_bytes}
 use Rattle.fl_types.specs.Mentions.{Region, made_parallel, is_nested, or_around}
 use Rattle.fl_types.specs.Rows.{is_varying, varies_in_loop, is_private_in, is_private_name, is_own_in, is_first_in, is_plus_in, is_name_of, is_no_terms, is_unlisted_in, kind_in, differ, any_ring, is_no_update, is_serial, is_bad_nest}

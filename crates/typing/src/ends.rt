@@ -2,7 +2,7 @@
 
 ghost use Rattle.std.specs.Prelude.{◌≡◌, ◌||◌};
 ghost use Rattle.fl_ast.specs.Tree.{expr_tree, expr_trees, place_tree};
-ghost use Rattle.fl_types.specs.Supported.{has_none as has_none_lem};
+ghost use Rattle.fl_types.specs.Declarations.{has_none as has_none_lem};
 ghost use Rattle.typing.specs.Firsts as firsts;
 ghost use Rattle.typing.specs.Views.{around_of};
 

@@ -2,7 +2,7 @@
 
 ghost use Rattle.std.specs.Prelude.{◌≡◌};
 ghost use Rattle.fl_types.specs.Sharing as sharing;
-ghost use Rattle.fl_types.specs.Supported as supported;
+ghost use Rattle.fl_types.specs.Declarations as declarations;
 ghost use Rattle.fl_types.specs.WellTyped as typed;
 
 use fl_ast::{Decl, Intent, Kind, Name};
@@ -15,13 +15,13 @@ pub(crate) fn has_name(name: &Name, names: &[Name]) -> bool
 }
 
 pub(crate) fn is_declared(decls: &[Decl], name: &Name) -> bool
-    ensures { result ≡ supported.is_declared decls.now name.now }
+    ensures { result ≡ declarations.is_declared decls.now name.now }
 {
     decls.iter().any(|decl| decl.name.is(name))
 }
 
 pub(crate) fn is_reserved(name: &Name) -> bool
-    ensures { result ≡ supported.is_reserved name.now }
+    ensures { result ≡ declarations.is_reserved name.now }
 {
     let bytes = name.bytes();
     bytes.ends_with(b"_b") || bytes.starts_with(b"formad_") || bytes.len() > 61
@@ -37,7 +37,7 @@ pub(crate) fn is_ring_kind(kind: Kind) -> bool
 }
 
 fn is_read_only(intent: Intent) -> bool
-    ensures { result ≡ supported.is_read_only intent }
+    ensures { result ≡ declarations.is_read_only intent }
 {
     match intent {
         Intent::ReadOnly => true,

@@ -1,5 +1,5 @@
 use Rattle.std.proofs.Common.{◌∙◌, subst, not}
-use Rattle.fl_types.specs.Supported.{is_ring_argument}
+use Rattle.fl_types.specs.Declarations.{is_ring_argument}
 use Rattle.activity.specs.Active.{IsCause, first_misfit, AreActive}
 use Rattle.activity.proofs.Between.{listed_alike, err_is, cause_first, cause_later, found_later}
 use Rattle.activity.proofs.set.active.Goals as goal

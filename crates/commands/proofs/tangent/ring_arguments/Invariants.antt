@@ -1,5 +1,5 @@
 use Rattle.std.proofs.Common.{◌≡◌, ◌++◌, drop, filter}
-use Rattle.fl_types.specs.Supported.{is_ring_argument}
+use Rattle.fl_types.specs.Declarations.{is_ring_argument}
 use Rattle.commands.proofs.tangent.ring_arguments.Given as goal
 
 abbrev pub invariant-loop-name : goal.invariant-loop-name
