@@ -7,8 +7,8 @@ ghost use Rattle.fl_types.specs.Sharing as sharing;
 ghost use Rattle.fl_types.specs.Surface as surface;
 ghost use Rattle.fl_types.specs.WellTyped as typed;
 
-use crate::sharing::Sharing;
 use crate::arguments::{has_name, is_ring_kind};
+use crate::sharing::Sharing;
 use fl_ast::{Arm, Decl, Directive, Kind, Name, Stmt};
 
 fn declaration<'a>(decls: &'a [Decl], name: &Name) -> Option<&'a Decl>

@@ -1,7 +1,7 @@
 ghost use Rattle.std.specs.Prelude.{◌≡◌};
 
-use crate::sharing::Sharing;
 use crate::arguments::is_ring_argument;
+use crate::sharing::Sharing;
 use crate::surface::{bytes_of_data, class_within_all, kind_declared};
 use fl_ast::{Kind, Name, Program};
 use std::fmt;
