@@ -1,0 +1,6 @@
+pub mod Bound
+pub mod Leaves
+pub mod Numbers
+pub mod Shapes
+pub mod Defined
+pub mod Direct

@@ -1,0 +1,3 @@
+pub mod Spots
+pub mod Bindings
+pub mod Numbers
