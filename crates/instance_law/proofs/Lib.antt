@@ -4,3 +4,5 @@ pub mod Numbers
 pub mod Shapes
 pub mod Defined
 pub mod Direct
+pub mod Members
+pub mod Along
