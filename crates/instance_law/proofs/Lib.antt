@@ -6,3 +6,4 @@ pub mod Defined
 pub mod Direct
 pub mod Members
 pub mod Along
+pub mod Laying
