@@ -114,7 +114,7 @@ module _ (scope : Scope) (line : ℕ) (path : List PathStep) where
       by_test false = refl
 
   mutual
-    reads_places : (e : Expression) → places (reads plain 0 [] e) ≡ places (reads scope line path e)
+    pub reads_places : (e : Expression) → places (reads plain 0 [] e) ≡ places (reads scope line path e)
     reads_places (literal n k) = refl
     reads_places (get x ss) =
         two_places (reads_all plain 0 [] ss) (reads_all scope line path ss) (access plain 0 [] Read (record { name = x; subscripts = ss })) (access scope line path Read (record { name = x; subscripts = ss })) (reads_all_places ss) (access_place Read Read (record { name = x; subscripts = ss }))
@@ -127,17 +127,17 @@ module _ (scope : Scope) (line : ℕ) (path : List PathStep) where
     reads_all_places no_expressions = refl
     reads_all_places (expression e es) = two_places (reads plain 0 [] e) (reads scope line path e) (reads_all plain 0 [] es) (reads_all scope line path es) (reads_places e) (reads_all_places es)
 
-  condition_places : (c : Condition) → places (condition_reads plain 0 [] c) ≡ places (condition_reads scope line path c)
+  pub condition_places : (c : Condition) → places (condition_reads plain 0 [] c) ≡ places (condition_reads scope line path c)
   condition_places (relation op a b) = two_places (reads plain 0 [] a) (reads scope line path a) (reads plain 0 [] b) (reads scope line path b) (reads_places a) (reads_places b)
   condition_places (negation a) = condition_places a
   condition_places (conjunction a b) = two_places (condition_reads plain 0 [] a) (condition_reads scope line path a) (condition_reads plain 0 [] b) (condition_reads scope line path b) (condition_places a) (condition_places b)
   condition_places (disjunction a b) = two_places (condition_reads plain 0 [] a) (condition_reads scope line path a) (condition_reads plain 0 [] b) (condition_reads scope line path b) (condition_places a) (condition_places b)
 
-  terms_places : (rs : List Signed) → places (term_reads plain 0 [] rs) ≡ places (term_reads scope line path rs)
+  pub terms_places : (rs : List Signed) → places (term_reads plain 0 [] rs) ≡ places (term_reads scope line path rs)
   terms_places [] = refl
   terms_places (r ∷ rs) = two_places (reads plain 0 [] r.1) (reads scope line path r.1) (term_reads plain 0 [] rs) (term_reads scope line path rs) (reads_places r.1) (terms_places rs)
 
-  target_places : (i k : AccessKind) (p : Designator) → places (reads_all plain 0 [] p.subscripts ++ access plain 0 [] i p) ≡ places (reads_all scope line path p.subscripts ++ access scope line path k p)
+  pub target_places : (i k : AccessKind) (p : Designator) → places (reads_all plain 0 [] p.subscripts ++ access plain 0 [] i p) ≡ places (reads_all scope line path p.subscripts ++ access scope line path k p)
   target_places i k p = two_places (reads_all plain 0 [] p.subscripts) (reads_all scope line path p.subscripts) (access plain 0 [] i p) (access scope line path k p) (reads_all_places p.subscripts) (access_place i k p)
 
   assignment_places : (atomic : Bool) (p : Designator) (e : Expression) (t : Option (List Signed)) → places (assignment_accesses plain 0 [] atomic p e t) ≡ places (assignment_accesses scope line path atomic p e t)
@@ -148,7 +148,7 @@ module _ (scope : Scope) (line : ℕ) (path : List PathStep) where
   step_places None = refl
   step_places (Some e) = reads_places e
 
-  bounds_places : (low high : Expression) (step : Option Expression) → places (bounds_reads plain low high step) ≡ places (bounds_accesses scope line path low high step)
+  pub bounds_places : (low high : Expression) (step : Option Expression) → places (bounds_reads plain low high step) ≡ places (bounds_accesses scope line path low high step)
   bounds_places low high step = two_places (reads plain 0 [] low) (reads scope line path low) _ _ (reads_places low) (two_places (reads plain 0 [] high) (reads scope line path high) _ _ (reads_places high) (step_places step))
 
 -- ---- forms
@@ -165,7 +165,7 @@ forms_long : (c : Setting) (k : Known) (a : ℕ) (ps : List Designator) → leng
 forms_long c k a [] = refl
 forms_long c k a (p ∷ ps) = ap suc (forms_long c k (suc a) ps)
 
-places_long : (os : List Occurrence) → length (places os) ≡ length os
+pub places_long : (os : List Occurrence) → length (places os) ≡ length os
 places_long [] = refl
 places_long (o ∷ os) = ap suc (places_long os)
 
