@@ -4,3 +4,4 @@ pub mod Numbers
 pub mod Shapes
 pub mod Defined
 pub mod Direct
+pub mod Ranges
