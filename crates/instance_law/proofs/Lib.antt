@@ -7,3 +7,4 @@ pub mod Direct
 pub mod Members
 pub mod Along
 pub mod Laying
+pub mod Ranges
