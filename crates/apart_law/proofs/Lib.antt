@@ -1,3 +1,5 @@
 pub mod Located
 pub mod Facts
 pub mod Rights
+pub mod Counters
+pub mod Pairs
