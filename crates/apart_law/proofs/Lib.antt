@@ -3,3 +3,5 @@ pub mod Facts
 pub mod Rights
 pub mod Counters
 pub mod Pairs
+pub mod SpotPaths
+pub mod Respecting
