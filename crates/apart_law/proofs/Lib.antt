@@ -4,4 +4,5 @@ pub mod Rights
 pub mod Counters
 pub mod Pairs
 pub mod SpotPaths
+pub mod Places
 pub mod Respecting

@@ -14,9 +14,14 @@ use Rattle.fl_types.specs.Accesses.{Scope, Occurrence, scope_of, accesses_all, l
 use Rattle.fl_types.specs.Nests.{iteration_body}
 use Rattle.fl_types.specs.Sharing.{makes_accesses, sharing_in, is_plus, is_ring_name}
 use Rattle.loop_accesses.specs.Numbers.{Numbered, numbered as numbered_from}
-use Rattle.meaning.specs.Sites.{Cells, Site, in_iteration}
+use Rattle.store_core.specs.Keys.{same_key, first_at}
+use Rattle.meaning.specs.declared.value.Value.{Value}
+use Rattle.meaning.specs.declared.value.Cause.{Cause}
+use Rattle.meaning.specs.Values.{whole_numbers}
+use Rattle.meaning.specs.Expressions.{values_of}
+use Rattle.meaning.specs.Sites.{Key, Cells, Site, in_iteration}
 use Rattle.meaning.specs.Statements.{Heads, iterations, turns, run_all}
-use Rattle.meaning.specs.Touches.{scope_at}
+use Rattle.meaning.specs.Touches.{scope_at, place_at}
 use Rattle.meaning.specs.Reached.{iteration_cells}
 use Rattle.meaning.specs.Groups.{Group, iteration_of, groups_of_all, groups_of_iteration}
 use Rattle.meaning.proofs.Parts.{turn_run, result_once}
@@ -34,6 +39,8 @@ use Rattle.index_law.specs.Respect.{Fits}
 use Rattle.index_law.specs.Starts.{IsBegun, StandsAtStart}
 use Rattle.index_law.specs.Valuations.{is_of_instance, StandsForTwo}
 use Rattle.index_law.specs.Worth.{HoldsKnown}
+use Rattle.index_law.proofs.Nodes.{sound_all}
+use Rattle.index_law.proofs.GroupKeys.{keys_kept}
 use Rattle.index_law.proofs.Respects.{respected}
 use Rattle.index_law.proofs.Starts.{known_at_start_holds}
 use Rattle.index_law.proofs.Fixed.{unwritten_fixed, fixed_at_start}
@@ -51,7 +58,7 @@ use Rattle.instance_law.proofs.Along.{Found, found_all}
 use Rattle.instance_law.proofs.Laying.{accesses_of_all, laid_of_all, forms_of_all, spot_forms_long}
 use Rattle.instance_law.proofs.Ranges.{range_holds}
 use Rattle.certificate_rules.specs.Surveys.{Survey, numbered, range_of, IsSurvey, fact_serves}
-use Rattle.certificate_rules.specs.Disjoint.{is_nested, Respects}
+use Rattle.certificate_rules.specs.Disjoint.{DifferentIterations, Respects, Disjoint}
 use Rattle.index_knowledge.specs.Knowledge.{KnownFact, KnownPair, is_write, is_fact}
 use Rattle.loop_scenes.specs.Turns.{last_turn_of}
 use Rattle.loop_pairs.specs.Known.{bare, bare_accesses, survey_by, nest_of}
@@ -60,6 +67,7 @@ use Rattle.apart_law.proofs.Located.{Located, located, At, number_of, beside, fo
 use Rattle.apart_law.proofs.Facts.{facts_of_two, one_writes, one_name, served}
 use Rattle.apart_law.proofs.Counters.{different, second_lies}
 use Rattle.apart_law.proofs.SpotPaths.{spot_paths}
+use Rattle.apart_law.proofs.Places.{subscripts_at}
 
 -- ---- the accesses of a survey
 
@@ -318,7 +326,7 @@ module _ (decls : List Decl) (l : HeadedLoop) (site : Site) (heads : Heads) (cel
         (ap (λ (z : Occurrence). values v (subscript_forms x z.place.subscripts)) g ∙ (same ∙ ap (λ (z : Occurrence). values v (subscript_forms y z.place.subscripts)) (sym h)))
 
     -- where two accesses stand among the loop's
-    record Placed (m n : ℕ) (o q : Occurrence) : Type 0 where
+    pub record Placed (m n : ℕ) (o q : Occurrence) : Type 0 where
       pub first : Located (spots One) 0 m o
       pub second : Located (spots Two) 0 n q
       pub of_first : first.spot ≡ one.spot
@@ -359,3 +367,59 @@ module _ (decls : List Decl) (l : HeadedLoop) (site : Site) (heads : Heads) (cel
         let fx : subscript_forms (view_at One k.first x.0 x.1) x.0.place.subscripts ≡ f = same_some _ f (sym (form_is One k.first x.0 x.1) ∙ ff) in
         let gy : subscript_forms (view_at Two k.second y.0 y.1) y.0.place.subscripts ≡ g = same_some _ g (sym (form_is Two k.second y.0 y.1) ∙ gg) in
         respected_at d x.0 y.0 r1.evaluated r2.evaluated r1.access r2.access writes name (view_at One k.first x.0 x.1) (view_at Two k.second y.0 y.1) r1.fits r2.fits (ap (values v) fx ∙ (same ∙ ap (values v) (sym gy)))
+
+    -- the valuation respects the pair
+    respects : i ≢ j → (m n : ℕ) (o q : Occurrence) → Placed m n o q → (p : KnownPair) → p.first ≡ m → p.second ≡ n → p.nest ≡ nest_of l.loop → Respects v (survey_by decls l) p
+    respects d m n o q at p e f g = record {
+      congruent = stands.congruent;
+      iterations = subst (λ (z : ℕ). DifferentIterations (nat_eq z 2) v) (sym g) (different v l site heads cells run.begun i j d stands.one stands.two);
+      ranges = λ side x r w. subst (λ (z : ℤ). LiesIn r z) (sym (stands.instances (inner side x) refl)) (given_lies range bindings (ranged_both range one.told.bindings two.told.bindings one.ranged two.ranged) side x r w);
+      second = λ side x w. on_side side x w;
+      facts = λ t k x y w serving ff gg. fact_holds d m n o q at p e f t k x y w serving ff gg;
+    }
+      where
+        on_side : (side : Side) (x : ℕ) → last_turn_of (further l) ≡ Some x → (pos 0 ≤ℤ v (iter2 side)) × (v (iter2 side) ≤ℤ pos x)
+        on_side One x w = second_lies v One l site heads cells run.begun i a.within stands.one x w
+        on_side Two x w = second_lies v Two l site heads cells run.begun j b.within stands.two x w
+
+    -- ---- the two accesses' own values
+
+    record OwnNumbers (side : Side) (k : ℕ) (e : Evaluated site l.loop heads cells k) (p : ℕ) (fs : Forms) : Type 0 where
+      numbers : List ℤ
+      worth : values v fs ≡ numbers
+      there : first_at (same_key (e.access.place.name, numbers)) site.keys ≡ Some p
+
+    own_numbers : (side : Side) (k : ℕ) (e : Evaluated site l.loop heads cells k) (w : Viewed) (p : ℕ) → Fits v w site l.loop heads cells k e → place_in site l.loop heads cells k e ≡ Some p → OwnNumbers side k e p (subscript_forms w e.access.place.subscripts)
+    own_numbers side k e w p fits falls = by_result (values_of e.access.place.subscripts e.group.site e.group.cells).out refl falls
+      where
+        by_result : (r : Result (List Value) Cause) → (values_of e.access.place.subscripts e.group.site e.group.cells).out ≡ r → place_at e.group.site e.access.place.name r ≡ Some p → OwnNumbers side k e p (subscript_forms w e.access.place.subscripts)
+        by_result (Err c) h g = cc
+        by_result (Ok vs) h g = record {
+          numbers = whole_numbers vs;
+          worth = sound_all v w 0 e.access.place.subscripts e.group.site e.group.cells fits.scalars fits.nodes vs h (fits.indices vs h);
+          there = subst (λ (ks : List Key). first_at (same_key (e.access.place.name, whole_numbers vs)) ks ≡ Some p) (keys_kept site l.loop heads k e.before e.group e.comes) g;
+        }
+
+    -- accesses that fall on one place have the same values
+    same_values_at : (m n : ℕ) (at : Placed m n a.access b.access) (p : ℕ) → place_in site l.loop heads cells i a ≡ Some p → place_in site l.loop heads cells j b ≡ Some p → (f g : Forms) → numbered (loop_forms decls l One) m ≡ Some f → numbered (loop_forms decls l Two) n ≡ Some g →
+        values v f ≡ values v g
+    same_values_at m n at p x y f g ff gg =
+        let ma = agrees_at v (c One) at.first.spot.known at.first.spot.before a.group.site a.group.cells at.first.spot.accesses at.first.at a.access at.first.here (own_first m n at).agrees in
+        let mb = agrees_at v (c Two) at.second.spot.known at.second.spot.before b.group.site b.group.cells at.second.spot.accesses at.second.at b.access at.second.here (own_second m n at).agrees in
+        let oa = own_numbers One i a (view_at One m a.access at.first) p (record { scalars = (own_first m n at).known; nodes = ma.0; indices = ma.1 }) x in
+        let ob = own_numbers Two j b (view_at Two n b.access at.second) p (record { scalars = (own_second m n at).known; nodes = mb.0; indices = mb.1 }) y in
+        let fx : subscript_forms (view_at One m a.access at.first) a.access.place.subscripts ≡ f = same_some _ f (sym (form_is One m a.access at.first) ∙ ff) in
+        let gy : subscript_forms (view_at Two n b.access at.second) b.access.place.subscripts ≡ g = same_some _ g (sym (form_is Two n b.access at.second) ∙ gg) in
+        let same : oa.numbers ≡ ob.numbers = subscripts_at site.keys a.access.place.name b.access.place.name oa.numbers ob.numbers p oa.there ob.there in
+        ap (values v) (sym fx) ∙ (oa.worth ∙ (same ∙ (sym ob.worth ∙ ap (values v) gy)))
+      where
+        own_first : (m n : ℕ) (at : Placed m n a.access b.access) → Met v (c One) at.first.spot a.group
+        own_first m n at = subst (λ (z : Spot). Met v (c One) z a.group) (sym at.of_first) own_one
+
+        own_second : (m n : ℕ) (at : Placed m n a.access b.access) → Met v (c Two) at.second.spot b.group
+        own_second m n at = subst (λ (z : Spot). Met v (c Two) z b.group) (sym at.of_second) own_two
+
+    -- where the pair is disjoint they don't
+    pub never : i ≢ j → (m n : ℕ) → Placed m n a.access b.access → (p : KnownPair) → p.first ≡ m → p.second ≡ n → p.nest ≡ nest_of l.loop → (f g : Forms) → numbered (loop_forms decls l One) m ≡ Some f → numbered (loop_forms decls l Two) n ≡ Some g →
+        Disjoint (survey_by decls l) p f g → (q : ℕ) → place_in site l.loop heads cells i a ≡ Some q → place_in site l.loop heads cells j b ≡ Some q → ⊥
+    never d m n at p e e2 e3 f g ff gg disjoint q x y = disjoint v (respects d m n a.access b.access at p e e2 e3) (same_values_at m n at q x y f g ff gg)
