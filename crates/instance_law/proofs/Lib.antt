@@ -8,3 +8,4 @@ pub mod Members
 pub mod Along
 pub mod Laying
 pub mod Ranges
+pub mod Numbering
