@@ -6,3 +6,4 @@ pub mod Pairs
 pub mod SpotPaths
 pub mod Places
 pub mod Respecting
+pub mod Differing

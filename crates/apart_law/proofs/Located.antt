@@ -13,6 +13,7 @@ use Rattle.index_forms.specs.Walk.{Setting, viewed}
 use Rattle.index_law.specs.Worth.{AgreesOn, AreIndices}
 use Rattle.index_law.specs.Meetings.{In}
 use Rattle.index_law.proofs.GroupKeys.{by_side}
+use Rattle.index_law.proofs.Meets.{in_left}
 use Rattle.instance_law.specs.Spots.{Spot, AllAgree}
 use Rattle.instance_law.specs.Laid.{places, accesses_at, forms_at, spot_forms, AreLaid}
 use Rattle.instance_law.proofs.Laying.{flat_both}
@@ -127,18 +128,18 @@ number_of (y ∷ ys) a x at o l (inr i) h =
 
 -- ---- what stands beside accesses, as many for each spot
 
-flat_long : {B : Type 0} (f : Spot → List B) → ((x : Spot) → length (f x) ≡ length x.accesses) → (xs : List Spot) → length (flat_map f xs) ≡ length (flat_map accesses_at xs)
-flat_long f h [] = refl
-flat_long f h (x ∷ xs) =
-    let e : length (f x) ≡ length x.accesses = h x in
-    let g : length (flat_map f xs) ≡ length (flat_map accesses_at xs) = flat_long f h xs in
+flat_long : {B : Type 0} (f : Spot → List B) (xs : List Spot) → ((x : Spot) → In x xs → length (f x) ≡ length x.accesses) → length (flat_map f xs) ≡ length (flat_map accesses_at xs)
+flat_long f [] h = refl
+flat_long f (x ∷ xs) h =
+    let e : length (f x) ≡ length x.accesses = h x (inl refl) in
+    let g : length (flat_map f xs) ≡ length (flat_map accesses_at xs) = flat_long f xs (λ y i. h y (inr i)) in
     let w : length (f x ++ flat_map f xs) ≡ length (f x) + length (flat_map f xs) = length-append (f x) (flat_map f xs) in
     let u : length (x.accesses ++ flat_map accesses_at xs) ≡ length x.accesses + length (flat_map accesses_at xs) = length-append x.accesses (flat_map accesses_at xs) in
     omega (arith, e, g, w, u)
 
-pub beside : {B : Type 0} (f : Spot → List B) → ((x : Spot) → length (f x) ≡ length x.accesses) → (spots : List Spot) (a m : ℕ) (o : Occurrence) (l : Located spots a m o) (b : B) → numbered (f l.spot) l.at ≡ Some b → numbered (flat_map f spots) m ≡ Some b
-beside {B} f h spots a m o l b e =
-    let w : length (flat_map f l.pre) ≡ length (flat_map accesses_at l.pre) = flat_long f h l.pre in
+pub beside : {B : Type 0} (f : Spot → List B) (spots : List Spot) → ((x : Spot) → In x spots → length (f x) ≡ length x.accesses) → (a m : ℕ) (o : Occurrence) (l : Located spots a m o) (b : B) → numbered (f l.spot) l.at ≡ Some b → numbered (flat_map f spots) m ≡ Some b
+beside {B} f spots h a m o l b e =
+    let w : length (flat_map f l.pre) ≡ length (flat_map accesses_at l.pre) = flat_long f l.pre (λ x i. h x (subst (λ (zs : List Spot). In x zs) (sym l.whole) (in_left x l.pre (l.spot ∷ l.post) i))) in
     let i = l.number in
     let j : length (flat_map f l.pre) + l.at ≡ m = omega (arith, w, i) in
     let there : numbered (flat_map f l.pre ++ (f l.spot ++ flat_map f l.post)) (length (flat_map f l.pre) + l.at) ≡ Some b = numbered_later (flat_map f l.pre) (f l.spot ++ flat_map f l.post) l.at b (numbered_first (f l.spot) (flat_map f l.post) l.at b e) in

@@ -160,21 +160,21 @@ sides_differ : ¬ (One ≡ Two)
 sides_differ e = cc
 
 module _ (decls : List Decl) (l : HeadedLoop) (site : Site) (heads : Heads) (cells : Cells) (run : IsRun decls l site heads cells) where
-  abbrev isite : Site
+  abbrev pub isite : Site
   isite = in_iteration site l.loop.directive l.loop.var l.loop.body
 
-  abbrev range : ℕ → Option KnownRange
+  abbrev pub range : ℕ → Option KnownRange
   range n = range_of (ranges_in (inside l)) n
 
-  abbrev c : Side → Setting
+  abbrev pub c : Side → Setting
   c side = set side (is_fixed decls l) cells isite
 
-  abbrev spots : Side → List Spot
+  abbrev pub spots : Side → List Spot
   spots side = spots_in (c side) 1 (known_at_start side l) [] 0 (inside l)
 
   -- ---- accesses and forms by number
 
-  scope_is : scope_at isite ≡ scope_of decls l.loop
+  pub scope_is : scope_at isite ≡ scope_of decls l.loop
   scope_is =
       let f : List (List ℕ) → (List ℕ → Bool) → Scope = λ outer ring. record { accessed = makes_accesses outer l.loop.var l.loop.directive l.loop.body; pluses = λ x. is_plus (sharing_in l.loop.var l.loop.directive l.loop.body x); ring = ring } in
       ap (λ (outer : List (List ℕ)). f outer site.ring) run.outer ∙ ap (λ (ring : List ℕ → Bool). f l.loop.outer ring) run.ring
@@ -185,7 +185,7 @@ module _ (decls : List Decl) (l : HeadedLoop) (site : Site) (heads : Heads) (cel
   accesses_are : (side : Side) → flat_map accesses_at (spots side) ≡ loop_accesses decls l.loop
   accesses_are side = accesses_of_all (c side) 1 (known_at_start side l) [] 0 (inside l) ∙ ap (λ (scope : Scope). accesses_all scope 1 [] (inside l)) scope_is
 
-  laid : (side : Side) → AreLaid 0 (spots side)
+  pub laid : (side : Side) → AreLaid 0 (spots side)
   laid side = laid_of_all (c side) 1 (known_at_start side l) [] 0 (inside l)
 
   forms_are : (side : Side) → flat_map (spot_forms (c side)) (spots side) ≡ loop_forms decls l side
@@ -195,14 +195,14 @@ module _ (decls : List Decl) (l : HeadedLoop) (site : Site) (heads : Heads) (cel
   abbrev pub view_at : (side : Side) (m : ℕ) (o : Occurrence) → Located (spots side) 0 m o → Viewed
   view_at side m o w = viewed (c side) w.spot.known (w.spot.before + w.at)
 
-  form_is : (side : Side) (m : ℕ) (o : Occurrence) (w : Located (spots side) 0 m o) → numbered (loop_forms decls l side) m ≡ Some (subscript_forms (view_at side m o w) o.place.subscripts)
+  pub form_is : (side : Side) (m : ℕ) (o : Occurrence) (w : Located (spots side) 0 m o) → numbered (loop_forms decls l side) m ≡ Some (subscript_forms (view_at side m o w) o.place.subscripts)
   form_is side m o w =
       subst (λ (fs : List Forms). numbered fs m ≡ Some (subscript_forms (view_at side m o w) o.place.subscripts)) (forms_are side)
-      (beside (spot_forms (c side)) (spot_forms_long (c side)) (spots side) 0 m o w (subscript_forms (view_at side m o w) o.place.subscripts) (form_at (c side) w.spot.known w.spot.before w.spot.accesses w.at o w.here))
+      (beside (spot_forms (c side)) (spots side) (λ x i. spot_forms_long (c side) x) 0 m o w (subscript_forms (view_at side m o w) o.place.subscripts) (form_at (c side) w.spot.known w.spot.before w.spot.accesses w.at o w.here))
 
-  access_is : (side : Side) (m : ℕ) (o : Occurrence) → Located (spots side) 0 m o → numbered (bare_accesses decls l.loop) m ≡ Some (bare_at l.loop.number m o)
+  pub access_is : (side : Side) (m : ℕ) (o : Occurrence) → Located (spots side) 0 m o → numbered (bare_accesses decls l.loop) m ≡ Some (bare_at l.loop.number m o)
   access_is side m o w =
-      let e : numbered (loop_accesses decls l.loop) m ≡ Some o = subst (λ (os : List Occurrence). numbered os m ≡ Some o) (accesses_are side) (beside accesses_at (λ x. refl) (spots side) 0 m o w o w.here) in
+      let e : numbered (loop_accesses decls l.loop) m ≡ Some o = subst (λ (os : List Occurrence). numbered os m ≡ Some o) (accesses_are side) (beside accesses_at (spots side) (λ x i. refl) 0 m o w o w.here) in
       let f : 0 + m ≡ m = omega arith in
       bare_from l.loop.number 0 (loop_accesses decls l.loop) m o e ∙ ap (λ (n : ℕ). Some (bare_at l.loop.number n o)) f
 
@@ -211,12 +211,12 @@ module _ (decls : List Decl) (l : HeadedLoop) (site : Site) (heads : Heads) (cel
       let w = occurrence_at l.loop.number 1 (loop_accesses decls l.loop) m x e in
       (w.0, located (spots side) 0 m w.0 (laid side) (subst (λ (os : List Occurrence). numbered os m ≡ Some w.0) (sym (accesses_are side)) w.1))
 
-  spot_in : (side : Side) (m : ℕ) (o : Occurrence) (w : Located (spots side) 0 m o) → In w.spot (spots side)
+  pub spot_in : (side : Side) (m : ℕ) (o : Occurrence) (w : Located (spots side) 0 m o) → In w.spot (spots side)
   spot_in side m o w = subst (λ (xs : List Spot). In w.spot xs) (sym w.whole) (in_right w.spot w.pre (w.spot ∷ w.post) (inl refl))
 
   -- ---- one side
 
-  abbrev Side_found : Side → (k : ℕ) → Evaluated site l.loop heads cells k → Type 0
+  abbrev pub Side_found : Side → (k : ℕ) → Evaluated site l.loop heads cells k → Type 0
   Side_found side k e =
       Found side (is_fixed decls l) cells range range_holds (FromNumber 1) 1 (1 + statements_count (inside l)) 0 (0 + length (accesses_all (scope_at isite) 1 [] (inside l))) (numbers_in (inside l)) (known_at_start side l) []
       isite (iteration_cells site l.loop.directive l.loop.var l.loop.body heads k e.before) (spots side) (groups_of_iteration site l.loop heads k e.before) e.group
@@ -239,16 +239,16 @@ module _ (decls : List Decl) (l : HeadedLoop) (site : Site) (heads : Heads) (cel
   -- ---- both sides
 
   module _ (i j : ℕ) (a : Evaluated site l.loop heads cells i) (b : Evaluated site l.loop heads cells j) where
-    abbrev one : Side_found One i a
+    abbrev pub one : Side_found One i a
     one = side_found One i a
 
-    abbrev two : Side_found Two j b
+    abbrev pub two : Side_found Two j b
     two = side_found Two j b
 
-    abbrev bindings : List Binding
+    abbrev pub bindings : List Binding
     bindings = one.told.bindings ++ two.told.bindings
 
-    abbrev wanted : Atom → ℤ
+    abbrev pub wanted : Atom → ℤ
     wanted = given bindings (otherwise range)
 
     abbrev standing : (v : Atom → ℤ) × StandsForTwo v wanted l site heads cells i j
@@ -309,10 +309,10 @@ module _ (decls : List Decl) (l : HeadedLoop) (site : Site) (heads : Heads) (cel
         reached_by Two j b m o w g.0 g.1 g.2
 
     -- the group that was evaluated itself
-    own_one : Met v (c One) one.spot a.group
+    pub own_one : Met v (c One) one.spot a.group
     own_one = one.own v (agrees_left v one.told.bindings two.told.bindings agrees) known_one stands.reads
 
-    own_two : Met v (c Two) two.spot b.group
+    pub own_two : Met v (c Two) two.spot b.group
     own_two = two.own v (agrees_right v one.told.bindings two.told.bindings agrees) known_two stands.reads
 
     -- ---- the pair of the two

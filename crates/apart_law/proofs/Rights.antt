@@ -62,7 +62,7 @@ by_places os ps e =
 abbrev pub Begins : Spot → Type 0
 Begins x = (rest : List Occurrence) × (x.accesses ≡ x.right ++ rest)
 
-abbrev AllBegin : List Spot → Type 0
+abbrev pub AllBegin : List Spot → Type 0
 AllBegin [] = Unit {0}
 AllBegin (x ∷ xs) = Begins x × AllBegin xs
 
@@ -174,3 +174,4 @@ module _ (c : Setting) (on : List ℕ → Bool) where
         (ap (λ (bs : List Bool). bs ++ (rights_in_arms plain on arms ++ others)) (rights_of_all j k (path ++ Arm n m ∷ []) (a + length tests) body)
         ∙ (ap (λ (bs : List Bool). flat_map (spot_rights on) xs ++ bs) (rights_of_arms line n (j + statements_count body) (m + 1) (without (written_in body) k) path (a + length tests + length inner) arms other others f)
         ∙ sym (flat_both (spot_rights on) xs ys))))
+
