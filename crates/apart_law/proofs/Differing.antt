@@ -1,5 +1,5 @@
 -- Reads of a name whose pairs are shown are apart.
-use Rattle.std.proofs.Common.{◌≡◌, ◌≢◌, ℕ, ◌-◌, ◌<◌, ◌≤◌, Bool, true, false, ◌&&◌, ◌||◌, ◌⊎◌, if◌then◌else◌, List, [], ◌∷◌, ◌++◌, map, length, refl, ap, sym, ◌∙◌, subst, arith, Option, Some, None}
+use Rattle.std.proofs.Common.{◌≡◌, ◌≢◌, ℕ, ◌+◌, ◌-◌, ◌<◌, ◌≤◌, Bool, true, false, ◌&&◌, ◌||◌, ◌⊎◌, if◌then◌else◌, List, [], ◌∷◌, ◌++◌, map, length, refl, ap, sym, ◌∙◌, subst, arith, Option, Some, None}
 use mathlib.Core.Logic.{inl, inr}
 use Rattle.std.specs.Prelude.{flat_map, nat_le, bytes_eq}
 use Rattle.std.specs.List.{AllByRecursion}
@@ -35,13 +35,22 @@ use Rattle.apart_law.specs.Apart.{IsRun, IsDifferentiated}
 use Rattle.apart_law.proofs.Located.{Located, At, number_in, number_of, numbered_first, numbered_map, beside}
 use Rattle.apart_law.proofs.Pairs.{of_pairs}
 use Rattle.apart_law.proofs.Rights.{spot_rights, falses, AllBegin, begin_of_all, begins_in, rights_as_many, rights_of_all}
-use Rattle.apart_law.proofs.Respecting.{bare_at, c, spots, view_at, form_is, access_is, laid, side_found, Placed, never, scope_is, spot_in}
+use Rattle.apart_law.proofs.Respecting.{bare_at, c, spots, view_at, form_is, access_is, laid, key_of, side_found, one, two, own_one, own_two, Placed, never, scope_is, spot_in}
 
 marked_at : (b : Bool) (os : List Occurrence) (n : ℕ) (o : Occurrence) → numbered os n ≡ Some o → numbered (marked b os) n ≡ Some b
 marked_at b os n o h = numbered_map (λ (o : Occurrence). b) os n o h
 
 le_true : (m n : ℕ) → m ≤ n → nat_le m n ≡ true
 le_true m n h = grind (arith, nat_tests)
+
+le_is : (m n : ℕ) → nat_le m n ≡ true → m ≤ n
+le_is m n h = grind (arith, nat_tests)
+
+later_is : (m n : ℕ) → nat_le m n ≡ false → n ≤ m
+later_is m n h = grind (arith, nat_tests)
+
+in_order : (m n a b : ℕ) → m ≡ a → n ≡ b → a ≤ b → m ≤ n
+in_order m n a b e f h = omega (arith, e, f, h)
 
 same_name : (x : List ℕ) → bytes_eq x x ≡ true
 same_name x = (bytes_eq-Decides x x).1 refl
@@ -56,6 +65,7 @@ module _ (decls : List Decl) (on : List ℕ → Bool) (l : HeadedLoop) (site : S
     found : Located (spots decls l site heads cells run side) 0 number d.evaluated.access
     is : found.spot ≡ (side_found decls l site heads cells run side i d.evaluated).spot
     right : numbered k.rights number ≡ Some true
+    numbering : number ≡ key_of decls l site heads cells run i d.evaluated + (number_in d.evaluated.access d.evaluated.group.right d.right).0
 
   -- the marks of accesses, as a side's spots have them
   rights_are : (side : Side) → flat_map (spot_rights on) (spots decls l site heads cells run side) ≡ k.rights
@@ -68,20 +78,27 @@ module _ (decls : List Decl) (on : List ℕ → Bool) (l : HeadedLoop) (site : S
       x ≡ (side_found decls l site heads cells run side i d.evaluated).spot → Numbered side i p d
   numbered_by side i p d x inside_spots same_accesses same_right same_target is =
       let o = d.evaluated.access in
-      let r : In o x.right = subst (λ (os : List Occurrence). In o os) same_right d.right in
-      let n = number_in o x.right r in
+      let n = number_in o d.evaluated.group.right d.right in
+      let own : numbered x.right n.0 ≡ Some o = subst (λ (os : List Occurrence). numbered os n.0 ≡ Some o) same_right n.1 in
       let begins = all_begin side in
       let b = begins_in (spots decls l site heads cells run side) begins x inside_spots in
-      let here : numbered x.accesses n.0 ≡ Some o = subst (λ (os : List Occurrence). numbered os n.0 ≡ Some o) (sym b.1) (numbered_first x.right b.0 n.0 o n.1) in
+      let here : numbered x.accesses n.0 ≡ Some o = subst (λ (os : List Occurrence). numbered os n.0 ≡ Some o) (sym b.1) (numbered_first x.right b.0 n.0 o own) in
       let t = number_of (spots decls l site heads cells run side) 0 x n.0 o (laid decls l site heads cells run side) inside_spots here in
       let active : on x.target ≡ true = subst (λ (y : List ℕ). on y ≡ true) same_target d.active in
-      let mark : numbered (spot_rights on x) n.0 ≡ Some true = subst (λ (m : Bool). numbered (spot_rights on x) n.0 ≡ Some m) active (numbered_first (marked (on x.target) x.right) (falses (length x.accesses - length x.right)) n.0 (on x.target) (marked_at (on x.target) x.right n.0 o n.1)) in
+      let mark : numbered (spot_rights on x) n.0 ≡ Some true = subst (λ (m : Bool). numbered (spot_rights on x) n.0 ≡ Some m) active (numbered_first (marked (on x.target) x.right) (falses (length x.accesses - length x.right)) n.0 (on x.target) (marked_at (on x.target) x.right n.0 o own)) in
       let there : numbered (spot_rights on t.found.spot) t.found.at ≡ Some true =
       subst (λ (y : Spot). numbered (spot_rights on y) t.found.at ≡ Some true) (sym t.is) (subst (λ (z : ℕ). numbered (spot_rights on x) z ≡ Some true) (sym t.there) mark) in
       record {
         number = t.number;
         found = t.found;
         is = t.is ∙ is;
+        numbering =
+            (let e : t.found.spot.before ≡ (side_found decls l site heads cells run side i d.evaluated).spot.before = ap (λ (y : Spot). y.before) (t.is ∙ is) in
+            let f : (side_found decls l site heads cells run side i d.evaluated).spot.before ≡ key_of decls l site heads cells run i d.evaluated = (side_found decls l site heads cells run side i d.evaluated).begins in
+            let g = t.found.begins in
+            let h = t.found.number in
+            let w = t.there in
+            omega (arith, e, f, g, h, w));
         right = subst (λ (bs : List Bool). numbered bs t.number ≡ Some true) (rights_are side)
             (beside (spot_rights on) (spots decls l site heads cells run side) (λ y i. rights_as_many on y (begins_in (spots decls l site heads cells run side) begins y i)) 0 t.number o t.found true there);
       }
@@ -137,3 +154,41 @@ module _ (decls : List Decl) (on : List ℕ → Bool) (l : HeadedLoop) (site : S
       or_first : (b : Bool) → b ≡ true → (b || false) ≡ true
       or_first true e = refl
       or_first false e = cc
+
+  -- the reads of two iterations
+  pub apart : (x : List ℕ) → AllByRecursion (NeverMeet k) (pairs_of (x ∷ []) k) → (i j p : ℕ) → i ≢ j → (d : IsDifferentiated on site l heads cells i p) (e : IsDifferentiated on site l heads cells j p) → d.evaluated.access.place.name ≡ x → e.evaluated.access.place.name ≡ x → ⊥
+  apart x all i j p differ d e named also = by_order (nat_le first second) refl
+    where
+      first : ℕ
+      first = key_of decls l site heads cells run i d.evaluated + (number_in d.evaluated.access d.evaluated.group.right d.right).0
+
+      second : ℕ
+      second = key_of decls l site heads cells run j e.evaluated + (number_in e.evaluated.access e.evaluated.group.right e.right).0
+
+      here_one : Numbered One i p d
+      here_one =
+          let m = own_one decls l site heads cells run i j d.evaluated e.evaluated in
+          let f = side_found decls l site heads cells run One i d.evaluated in
+          numbered_by One i p d f.spot f.among m.accesses m.right m.target refl
+
+      there_two : Numbered Two j p e
+      there_two =
+          let m = own_two decls l site heads cells run i j d.evaluated e.evaluated in
+          let f = side_found decls l site heads cells run Two j e.evaluated in
+          numbered_by Two j p e f.spot f.among m.accesses m.right m.target refl
+
+      there_one : Numbered One j p e
+      there_one =
+          let m = own_one decls l site heads cells run j i e.evaluated d.evaluated in
+          let f = side_found decls l site heads cells run One j e.evaluated in
+          numbered_by One j p e f.spot f.among m.accesses m.right m.target refl
+
+      here_two : Numbered Two i p d
+      here_two =
+          let m = own_two decls l site heads cells run j i e.evaluated d.evaluated in
+          let f = side_found decls l site heads cells run Two i d.evaluated in
+          numbered_by Two i p d f.spot f.among m.accesses m.right m.target refl
+
+      by_order : (b : Bool) → nat_le first second ≡ b → ⊥
+      by_order true f = pair_apart x all i j p differ d e named also here_one there_two (in_order here_one.number there_two.number first second here_one.numbering there_two.numbering (le_is first second f))
+      by_order false f = pair_apart x all j i p (λ g. differ (sym g)) e d also named there_one here_two (in_order there_one.number here_two.number second first there_one.numbering here_two.numbering (later_is first second f))

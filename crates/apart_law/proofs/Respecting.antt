@@ -54,7 +54,7 @@ use Rattle.instance_law.specs.Spots.{Spot, spots_in, Met}
 use Rattle.instance_law.specs.Laid.{accesses_at, spot_forms, AreLaid, plainly}
 use Rattle.instance_law.proofs.Bound.{agrees_left, agrees_right, apart_both, separate_sides, themselves, themselves_both, list_agrees, same_values}
 use Rattle.instance_law.proofs.Direct.{set, RanAll, Told}
-use Rattle.instance_law.proofs.Along.{Found, found_all}
+use Rattle.instance_law.proofs.Along.{Found, key_all, found_all}
 use Rattle.instance_law.proofs.Laying.{accesses_of_all, laid_of_all, forms_of_all, spot_forms_long}
 use Rattle.instance_law.proofs.Ranges.{range_holds}
 use Rattle.certificate_rules.specs.Surveys.{Survey, numbered, range_of, IsSurvey, fact_serves}
@@ -216,20 +216,33 @@ module _ (decls : List Decl) (l : HeadedLoop) (site : Site) (heads : Heads) (cel
 
   -- ---- one side
 
-  abbrev pub Side_found : Side → (k : ℕ) → Evaluated site l.loop heads cells k → Type 0
-  Side_found side k e =
-      Found side (is_fixed decls l) cells range range_holds (FromNumber 1) 1 (1 + statements_count (inside l)) 0 (0 + length (accesses_all (scope_at isite) 1 [] (inside l))) (numbers_in (inside l)) (known_at_start side l) []
-      isite (iteration_cells site l.loop.directive l.loop.var l.loop.body heads k e.before) (spots side) (groups_of_iteration site l.loop heads k e.before) e.group
+  -- the run of iteration k, and how many accesses come before an evaluated one's group
+  record RanIteration (k : ℕ) (before : Cells) : Type 0 where
+    past : Cells
+    ran : (run_all (inside l) isite (iteration_cells site l.loop.directive l.loop.var l.loop.body heads k before)).out ≡ Ok past
 
-  pub side_found : (side : Side) (k : ℕ) (e : Evaluated site l.loop heads cells k) → Side_found side k e
-  side_found side k e =
+  iteration_ran : (k : ℕ) (e : Evaluated site l.loop heads cells k) → RanIteration k e.before
+  iteration_ran k e =
       let u = turn_run (iterations heads) k (iteration_of site l.loop heads) cells run.free.end run.free.ran e.within in
       let same : u.before ≡ e.before = result_once (turns k (iteration_of site l.loop heads) cells).out u.before e.before u.reached e.reached in
       let ran : (iteration_of site l.loop heads k e.before).out ≡ Ok u.past = subst (λ (z : Cells). (iteration_of site l.loop heads k z).out ≡ Ok u.past) same u.ran in
-      found_all side (is_fixed decls l) cells range range_holds 1 0 (known_at_start side l) [] (inside l) isite (iteration_cells site l.loop.directive l.loop.var l.loop.body heads k e.before) u.past
+      record { past = u.past; ran = iteration_out site l.loop heads k e.before u.past ran }
+
+  pub key_of : (k : ℕ) → Evaluated site l.loop heads cells k → ℕ
+  key_of k e = key_all 1 0 [] (inside l) isite (iteration_cells site l.loop.directive l.loop.var l.loop.body heads k e.before) (iteration_ran k e).past (iteration_ran k e).ran e.group e.comes
+
+  abbrev pub Side_found : Side → (k : ℕ) → Evaluated site l.loop heads cells k → Type 0
+  Side_found side k e =
+      Found side (is_fixed decls l) cells range range_holds (FromNumber 1) 1 (1 + statements_count (inside l)) 0 (0 + length (accesses_all (scope_at isite) 1 [] (inside l))) (numbers_in (inside l)) (known_at_start side l) []
+      isite (iteration_cells site l.loop.directive l.loop.var l.loop.body heads k e.before) (spots side) (groups_of_iteration site l.loop heads k e.before) e.group (key_of k e)
+
+  pub side_found : (side : Side) (k : ℕ) (e : Evaluated site l.loop heads cells k) → Side_found side k e
+  unfolding key_of
+  side_found side k e =
+      found_all side (is_fixed decls l) cells range range_holds 1 0 (known_at_start side l) [] (inside l) isite (iteration_cells site l.loop.directive l.loop.var l.loop.body heads k e.before) (iteration_ran k e).past
       (record {
         sequential = run.begun.sequential;
-        ran = iteration_out site l.loop heads k e.before u.past ran;
+        ran = (iteration_ran k e).ran;
         sound = run.sound k e.within e.before e.reached;
         off = λ x f. unwritten_fixed decls l x f;
         holds = fixed_at_start decls l site heads cells run.begun k e.before e.reached;

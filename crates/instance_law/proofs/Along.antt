@@ -1,5 +1,5 @@
 -- For each group that a run came to, values for atoms, with which each spot on the path to it is met.
-use Rattle.std.proofs.Common.{◌≡◌, ℕ, zero, suc, ◌+◌, ◌<◌, ◌≤◌, Bool, true, false, ℤ, List, [], ◌∷◌, ◌++◌, length, refl, ap, sym, ◌∙◌, subst, arith, append_assoc, length-append, Option, Some, None, Result, Ok}
+use Rattle.std.proofs.Common.{◌≡◌, ℕ, zero, suc, ◌+◌, ◌<◌, ◌≤◌, Bool, true, false, ◌⊎◌, ℤ, List, [], ◌∷◌, ◌++◌, length, refl, ap, sym, ◌∙◌, subst, arith, append_assoc, length-append, Option, Some, None, Result, Ok}
 use mathlib.Core.Logic.{inl, inr}
 use Rattle.std.specs.Prelude.{◌||◌, cond, if◌then◌else◌, nat_eq, bytes_eq}
 use Rattle.std.proofs.lemmas.Bool.{and_parts}
@@ -85,10 +85,72 @@ unlooped range side n m a b (x ∷ bs) h = (one_unlooped x.0 x.1 h.0, unlooped r
     one_unlooped start2 z h = tt
     one_unlooped (iter2 s) z h = tt
 
+-- ---- how many accesses come before a group that a run came to
+
+abbrev pub either : {A B : Type 0} (P : Type 0) → A ⊎ B → (A → P) → (B → P) → P
+either P (inl a) f g = f a
+either P (inr b) f g = g b
+
+either_at : {A B : Type 0} (P : A ⊎ B → Type 0) (s : A ⊎ B) → ((a : A) → P (inl a)) → ((b : B) → P (inr b)) → P s
+either_at P (inl a) f g = f a
+either_at P (inr b) f g = g b
+
+-- in the arm that was taken, or behind it
+abbrev key_taken : {R S A B : Type 0} (b : Bool) → cond b R S → cond b A B → (R → A → ℕ) → (S → B → ℕ) → ℕ
+key_taken true r h f g = f r h
+key_taken false r h f g = g r h
+
+-- a member of one of two lists
+abbrev member_of : (g : Group) (b : Bool) (xs ys : List Group) → In g (if b then xs else ys) → cond b (In g xs) (In g ys)
+member_of g true xs ys h = h
+member_of g false xs ys h = h
+
+abbrev mutual
+  pub key_one : (n a : ℕ) (path : List PathStep) (s : Statement) (site : Site) (cells d : Cells) → (run s site cells).out ≡ Ok d → (g : Group) → In g (groups_of n path s site cells) → ℕ
+  key_one n a path (assignment line atomic p e) site cells d r g h = a
+  key_one n a path (branch line arms other) site cells d r g h = key_arms line n (n + 1) 0 a path arms other site cells d r g (λ i steps b q w. key_all i b steps other site cells d q g w) h
+  key_one n a path (loop line number (Some directive) var low high step body) site cells d r g h = a
+  key_one n a path (loop line number None var low high step body) site cells d r g (inl e) = a
+  key_one n a path (loop line number None var low high step body) site cells d r g (inr h) =
+      let os = bounds_accesses (scope_at site) line path low high step in
+      let at = path ++ Body n ∷ [] in
+      let l = loop_run site cells line number var low high step body d r in
+      let f : ℕ → Run = one_turn site var l.count (run_all body) in
+      let turned : IterationCount → ℕ → Cells → List Group = λ t k c. groups_of_all (n + 1) at body (in_turn site var) (cells_with site var (value_at t k) c) in
+      let t = turn_of g l.count.count f (turned l.count) cells d l.ran (of_result g (turns_of low high step site cells).out l.count (λ t. groups_of_turns t.count (one_turn site var t (run_all body)) (turned t) cells) l.evaluated h) in
+      let u = turn_run l.count.count t.number f cells d l.ran t.within in
+      let same : u.before ≡ t.before = result_once (turns t.number f cells).out u.before t.before u.reached t.reached in
+      let ran : (run_all body (in_turn site var) (cells_with site var (value_at l.count t.number) t.before)).out ≡ Ok u.past = subst (λ (c : Cells). (f t.number c).out ≡ Ok u.past) same u.ran in
+      key_all (n + 1) (a + length os) at body (in_turn site var) (cells_with site var (value_at l.count t.number) t.before) u.past ran g t.has
+
+  pub key_all : (n a : ℕ) (path : List PathStep) (ss : Statements) (site : Site) (cells d : Cells) → (run_all ss site cells).out ≡ Ok d → (g : Group) → In g (groups_of_all n path ss site cells) → ℕ
+  key_all n a path no_statements site cells d r g h = a
+  key_all n a path (statement s ss) site cells d r g h =
+      let b = bound (run s site cells) (run_all ss site) d r in
+      let m = n + statement_count s in
+      either ℕ (split g (groups_of n path s site cells) (groups_from (run s site cells).out (groups_of_all m path ss site)) h)
+      (λ q. key_one n a path s site cells b.value b.first g q)
+      (λ q. key_all m (a + length (accesses (scope_at site) n path s)) path ss site b.value d b.second g (of_result g (run s site cells).out b.value (groups_of_all m path ss site) b.first q))
+
+  key_arms : (line n j m a : ℕ) (path : List PathStep) (arms : Arms) (other : Statements) (site : Site) (cells d : Cells) → (run_arms arms line m (run_all other) site cells).out ≡ Ok d → (g : Group) →
+      ((i : ℕ) (steps : List PathStep) (b : ℕ) → (run_all other site cells).out ≡ Ok d → In g (groups_of_all i steps other site cells) → ℕ) → In g (groups_of_arms line n j m path arms (λ i steps. groups_of_all i steps other) site cells) → ℕ
+  key_arms line n j m a path no_arms other site cells d r g rest h = rest j (path ++ Arm n m ∷ []) a (other_run site cells line m (run_all other) d r) h
+  key_arms line n j m a path (arm test body arms) other site cells d r g rest (inl e) = a
+  key_arms line n j m a path (arm test body arms) other site cells d r g rest (inr h) =
+      let tests = condition_reads (scope_at site) line (test_path path n m) test in
+      let at = path ++ Arm n m ∷ [] in
+      let here = groups_of_all j at body site cells in
+      let there = groups_of_arms line n (j + statements_count body) (m + 1) path arms (λ i steps. groups_of_all i steps other) site cells in
+      let t = arm_run site cells test body arms line m (run_all other) d r in
+      key_taken t.taken t.ran (member_of g t.taken here there (of_result g (holds test site cells).out t.taken (λ b. if b then here else there) t.evaluated h))
+      (λ q w. key_all j (a + length tests) at body site cells d q g w)
+      (λ q w. key_arms line n (j + statements_count body) (m + 1) (a + length tests + length (accesses_all (scope_at site) j at body)) path arms other site cells d q g rest w)
+
 module _ (side : Side) (fixed : List ℕ → Bool) (before : Cells) (range : ℕ → Option KnownRange) (ranges : RangesHold) where
   -- the spot of a group, with values for atoms
-  pub record Found (P : List PathStep → Type 0) (n m a b : ℕ) (loops : ℕ → Bool) (k : Known) (path : List PathStep) (site : Site) (cells : Cells) (spots : List Spot) (gs : List Group) (g : Group) : Type 0 where
+  pub record Found (P : List PathStep → Type 0) (n m a b : ℕ) (loops : ℕ → Bool) (k : Known) (path : List PathStep) (site : Site) (cells : Cells) (spots : List Spot) (gs : List Group) (g : Group) (key : ℕ) : Type 0 where
     pub spot : Spot
+    pub begins : spot.before ≡ key
     pub among : In spot spots
     pub beneath : Beneath P path spot
     pub told : Told side fixed before n m a b loops k site cells spot.path spots gs
@@ -172,11 +234,12 @@ module _ (side : Side) (fixed : List ℕ → Bool) (before : Cells) (range : ℕ
         (λ w. let o = t.met v g (knows v h) rd z w lead in (o.0, into o.0 o.1, o.2));
   }
 
-  abbrev found_wider : (P Q : List PathStep → Type 0) (n m a b n2 m2 b2 : ℕ) (loops all : ℕ → Bool) (k : Known) (path deep : List PathStep) (site : Site) (cells : Cells) (spots : List Spot) (gs : List Group) (g : Group) → n2 ≤ n → m ≤ m2 → b ≤ b2 →
+  abbrev found_wider : (P Q : List PathStep → Type 0) (n m a b n2 m2 b2 : ℕ) (loops all : ℕ → Bool) (k : Known) (path deep : List PathStep) (site : Site) (cells : Cells) (spots : List Spot) (gs : List Group) (g : Group) (key : ℕ) → n2 ≤ n → m ≤ m2 → b ≤ b2 →
       ((l : ℕ) → loops l ≡ true → all l ≡ true) → ((x : Spot) → Beneath P deep x → Beneath Q path x) →
-      Found P n m a b loops k deep site cells spots gs g → Found Q n2 m2 a b2 all k path site cells spots gs g
-  found_wider P Q n m a b n2 m2 b2 loops all k path deep site cells spots gs g i j y f above t = record {
+      Found P n m a b loops k deep site cells spots gs g key → Found Q n2 m2 a b2 all k path site cells spots gs g key
+  found_wider P Q n m a b n2 m2 b2 loops all k path deep site cells spots gs g key i j y f above t = record {
     spot = t.spot;
+    begins = t.begins;
     among = t.among;
     beneath = above t.spot t.beneath;
     told = record {
@@ -191,8 +254,8 @@ module _ (side : Side) (fixed : List ℕ → Bool) (before : Cells) (range : ℕ
 
   -- ---- statements
 
-  record FoundOne (n a : ℕ) (k : Known) (path : List PathStep) (s : Statement) (site : Site) (cells d : Cells) (g : Group) : Type 0 where
-    found : Found (AtNumber n) n (n + statement_count s) a (a + length (accesses (scope_at site) n path s)) (numbers_by s) k path site cells (spots_of (set side fixed before site) n k path a s) (groups_of n path s site cells) g
+  record FoundOne (n a : ℕ) (k : Known) (path : List PathStep) (s : Statement) (site : Site) (cells d : Cells) (g : Group) (key : ℕ) : Type 0 where
+    found : Found (AtNumber n) n (n + statement_count s) a (a + length (accesses (scope_at site) n path s)) (numbers_by s) k path site cells (spots_of (set side fixed before site) n k path a s) (groups_of n path s site cells) g key
     stored : (v : Atom → ℤ) → Agrees v found.told.bindings → HasStored v side n s site d
 
   record ArmsRan (line m : ℕ) (arms : Arms) (other : Statements) (site : Site) (cells d : Cells) : Type 0 where
@@ -206,13 +269,14 @@ module _ (side : Side) (fixed : List ℕ → Bool) (before : Cells) (range : ℕ
 
   -- an assignment
   found_assigned : (n a : ℕ) (k : Known) (path : List PathStep) (line : ℕ) (atomic : Bool) (p : Designator) (e : Expression) (site : Site) (cells d : Cells) → Ran side fixed before (assignment line atomic p e) site cells d →
-      (g : Group) → In g (groups_of n path (assignment line atomic p e) site cells) → FoundOne n a k path (assignment line atomic p e) site cells d g
+      (g : Group) → In g (groups_of n path (assignment line atomic p e) site cells) → FoundOne n a k path (assignment line atomic p e) site cells d g a
   found_assigned n a k path line atomic p e site cells d r g (inr h) = absurd h
   found_assigned n a k path line atomic p e site cells d r g (inl f) =
       let t = assigned_told side fixed before n a k path site cells d path line atomic p e r in
       record {
         found = record {
           spot = _;
+          begins = refl;
           among = inl refl;
           beneath = ([], sym (append_nil path), tt);
           told = record { bindings = t.told.bindings; lies = lie_wider side n (n + 1) a (a + length (accesses (scope_at site) n path (assignment line atomic p e))) n (n + 1) a (a + length (accesses (scope_at site) n path (assignment line atomic p e))) no_loops (numbers_by (assignment line atomic p e)) (omega arith) (omega arith) (omega arith) (omega arith) (λ l h. cc) t.told.bindings t.told.lies; apart = t.told.apart; met = t.told.met };
@@ -302,8 +366,8 @@ module _ (side : Side) (fixed : List ℕ → Bool) (before : Cells) (range : ℕ
     abbrev whole : List Group
     whole = groups_of_arms line n j m path (arm test body arms) (λ i steps. groups_of_all i steps other) site cells
 
-    abbrev Wanted : Type 0
-    Wanted = Found (FromArm n m) j counts a total loops k path site cells (spot_at k a to_test tests ∷ (own ++ behind)) whole g
+    abbrev Wanted : ℕ → Type 0
+    Wanted key = Found (FromArm n m) j counts a total loops k path site cells (spot_at k a to_test tests ∷ (own ++ behind)) whole g key
 
     below_own : (x : Spot) → In x own → Beneath (FromNumber j) at x
     below_own x i = beneath_all (set side fixed before site) j k at (a + length tests) body x i
@@ -333,35 +397,38 @@ module _ (side : Side) (fixed : List ℕ → Bool) (before : Cells) (range : ℕ
         spread false q r h = h
 
     -- what was found in the arm, or behind it
-    abbrev InBody : Type 0
-    InBody = Found (FromNumber j) j (j + statements_count body) (a + length tests) (a + length tests + length inner_accesses) (numbers_in body) k at site cells own here g
+    abbrev InBody : ℕ → Type 0
+    InBody key = Found (FromNumber j) j (j + statements_count body) (a + length tests) (a + length tests + length inner_accesses) (numbers_in body) k at site cells own here g key
 
-    abbrev InBehind : Type 0
-    InBehind = Found (FromArm n (m + 1)) (j + statements_count body) (j + statements_count body + (arms_count arms + statements_count other)) (a + length tests + length inner_accesses) (a + length tests + length inner_accesses + length later_accesses)
-        (λ l. numbers_in_arms arms l || numbers_in other l) less path site cells behind there g
+    abbrev InBehind : ℕ → Type 0
+    InBehind key = Found (FromArm n (m + 1)) (j + statements_count body) (j + statements_count body + (arms_count arms + statements_count other)) (a + length tests + length inner_accesses) (a + length tests + length inner_accesses + length later_accesses)
+        (λ l. numbers_in_arms arms l || numbers_in other l) less path site cells behind there g key
 
-    body_ran : (holds test site cells).out ≡ Ok true → (run_all body site cells).out ≡ Ok d → RanAll side fixed before body site cells d
+    abbrev body_ran : (holds test site cells).out ≡ Ok true → (run_all body site cells).out ≡ Ok d → RanAll side fixed before body site cells d
     body_ran e q = record { sequential = (and_parts (are_sequential body) (are_arms_sequential arms) r.sequential).0; ran = q; sound = r.sound.0 e; off = off_first (written_in body) (written_in_arms arms) (written_in other) r.off; holds = r.holds }
 
-    behind_ran : (holds test site cells).out ≡ Ok false → (run_arms arms line (m + 1) (run_all other) site cells).out ≡ Ok d → ArmsRan line (m + 1) arms other site cells d
+    abbrev behind_ran : (holds test site cells).out ≡ Ok false → (run_arms arms line (m + 1) (run_all other) site cells).out ≡ Ok d → ArmsRan line (m + 1) arms other site cells d
     behind_ran e q = record { sequential = (and_parts (are_sequential body) (are_arms_sequential arms) r.sequential).1; others = r.others; ran = q; tests = r.tests.1; sound = r.sound.1 e; off = off_others (written_in body) (written_in_arms arms) (written_in other) r.off; holds = r.holds }
 
-    by_taken : (b : Bool) → (holds test site cells).out ≡ Ok b → cond b ((run_all body site cells).out ≡ Ok d) ((run_arms arms line (m + 1) (run_all other) site cells).out ≡ Ok d) → In g (chosen b) →
-        (RanAll side fixed before body site cells d → In g here → InBody) → (ArmsRan line (m + 1) arms other site cells d → In g there → InBehind) → Wanted
-    by_taken true e q w inside later =
+    by_taken : (b : Bool) → (holds test site cells).out ≡ Ok b → (q : cond b ((run_all body site cells).out ≡ Ok d) ((run_arms arms line (m + 1) (run_all other) site cells).out ≡ Ok d)) → (w : In g (chosen b)) →
+        (key_here : (run_all body site cells).out ≡ Ok d → In g here → ℕ) (key_there : (run_arms arms line (m + 1) (run_all other) site cells).out ≡ Ok d → In g there → ℕ) →
+        ((r : RanAll side fixed before body site cells d) (w : In g here) → InBody (key_here r.ran w)) → ((r : ArmsRan line (m + 1) arms other site cells d) (w : In g there) → InBehind (key_there r.ran w)) →
+        Wanted (key_taken b q (member_of g b here there w) key_here key_there)
+    by_taken true e q w key_here key_there inside later =
         let i = inside (body_ran e q) w in
         let u = spots_around j (j + statements_count body) (a + length tests) (a + length tests + length inner_accesses) j counts (a + length tests) total (numbers_in body) loops k site cells i.spot.path [] own behind here whole
         (omega arith) (omega arith) (omega arith) (omega (arith, parts)) (λ l h. or_left (numbers_in body l || numbers_in_arms arms l) (numbers_in other l) (or_left (numbers_in body l) (numbers_in_arms arms l) h)) (λ x q. absurd q)
         (λ x q. not_later n m path i.beneath.0 i.spot.path x (i.beneath.1 ∙ joined path (Arm n m) i.beneath.0) (below_behind x q)) (into true e) i.told in
         record {
           spot = i.spot;
+          begins = i.begins;
           among = inr (in_left i.spot own behind i.among);
           beneath = beneath_deeper (FromNumber j) (FromArm n m) path (Arm n m) i.spot (λ r w. in_this_arm n m r) i.beneath;
           told = joined_told i.spot.path u;
           ranged = ranged_both range (head i.spot.path).bindings u.bindings (unlooped range side j j a (a + length tests) (head i.spot.path).bindings (head i.spot.path).lies) i.ranged;
           own = λ v w h rd. i.own v (agrees_right v (head i.spot.path).bindings u.bindings w) h rd;
         }
-    by_taken false e q w inside later =
+    by_taken false e q w key_here key_there inside later =
         let i = later (behind_ran e q) w in
         let knows : (v : Atom → ℤ) → HoldsKnown v k site cells → HoldsKnown v less site cells = λ v h. known_less v (written_in body) k site cells h in
         let u = spots_in_front (j + statements_count body) (j + statements_count body + (arms_count arms + statements_count other)) (a + length tests + length inner_accesses) (a + length tests + length inner_accesses + length later_accesses) j (a + length tests)
@@ -369,6 +436,7 @@ module _ (side : Side) (fixed : List ℕ → Bool) (before : Cells) (range : ℕ
         (omega arith) (omega arith) (omega arith) (omega (arith, parts)) (λ l h. behind_loops l h) (λ x q. not_earlier n m j path i.beneath.0 i.spot.path x i.beneath.1 i.beneath.2 (below_own x q)) (into false e) knows i.told in
         record {
           spot = i.spot;
+          begins = i.begins;
           among = inr (in_right i.spot own behind i.among);
           beneath = beneath_weaker (FromArm n (m + 1)) (FromArm n m) path i.spot (later_arm n m) i.beneath;
           told = joined_told i.spot.path u;
@@ -376,9 +444,10 @@ module _ (side : Side) (fixed : List ℕ → Bool) (before : Cells) (range : ℕ
           own = λ v w h rd. i.own v (agrees_right v (head i.spot.path).bindings u.bindings w) (knows v h) rd;
         }
 
-    arm_found : In g whole → (RanAll side fixed before body site cells d → In g here → InBody) → (ArmsRan line (m + 1) arms other site cells d → In g there → InBehind) → Wanted
-    arm_found (inl e) inside later = record {
+    test_found : (own_test : group_at site cells tests ≡ g) → Wanted a
+    test_found e = record {
       spot = spot_at k a to_test tests;
+      begins = refl;
       among = inl refl;
       beneath = test_beneath n m path (spot_at k a to_test tests) refl;
       told = spots_around j j a (a + length tests) j counts a total no_loops loops k site cells to_test [] (spot_at k a to_test tests ∷ []) (own ++ behind) whole whole
@@ -387,21 +456,18 @@ module _ (side : Side) (fixed : List ℕ → Bool) (before : Cells) (range : ℕ
       ranged = unlooped range side j j a (a + length tests) (head to_test).bindings (head to_test).lies;
       own = λ v w h rd. subst (λ (z : Group). Met v (set side fixed before site) (spot_at k a to_test tests) z) e (own_met side fixed before v k a to_test site cells tests [] [] defined r.holds w h rd);
     }
-    arm_found (inr h) inside later =
-        let t = arm_run site cells test body arms line m (run_all other) d r.ran in
-        by_taken t.taken t.evaluated t.ran (of_result g (holds test site cells).out t.taken chosen t.evaluated h) inside later
 
   mutual
-    found_one : (n a : ℕ) (k : Known) (path : List PathStep) (s : Statement) (site : Site) (cells d : Cells) → Ran side fixed before s site cells d → IsNumbered range s →
-        (g : Group) → In g (groups_of n path s site cells) → FoundOne n a k path s site cells d g
+    found_one : (n a : ℕ) (k : Known) (path : List PathStep) (s : Statement) (site : Site) (cells d : Cells) (r : Ran side fixed before s site cells d) → IsNumbered range s →
+        (g : Group) (h : In g (groups_of n path s site cells)) → FoundOne n a k path s site cells d g (key_one n a path s site cells d r.ran g h)
     found_one n a k path (assignment line atomic p e) site cells d r num g h = found_assigned n a k path line atomic p e site cells d r g h
     found_one n a k path (branch line arms other) site cells d r num g h =
         let c = and_parts (are_arms_sequential arms) (are_sequential other) r.sequential in
         let i = found_arms line n (n + 1) 0 a k path arms other site cells d
-        (record { sequential = c.0; others = c.1; ran = r.ran; tests = r.sound.0.1; sound = r.sound.1; off = r.off; holds = r.holds }) num.0 g (λ i h steps b q w. found_all i b h steps other site cells d q num.1 g w) h in
+        (record { sequential = c.0; others = c.1; ran = r.ran; tests = r.sound.0.1; sound = r.sound.1; off = r.off; holds = r.holds }) num.0 g (λ i steps b q w. key_all i b steps other site cells d q g w) (λ i h steps b q w. found_all i b h steps other site cells d q num.1 g w) h in
         record {
           found = found_wider (FromArm n 0) (AtNumber n) (n + 1) (n + 1 + (arms_count arms + statements_count other)) a (a + length (accesses (scope_at site) n path (branch line arms other))) n (n + statement_count (branch line arms other)) (a + length (accesses (scope_at site) n path (branch line arms other)))
-              (λ l. numbers_in_arms arms l || numbers_in other l) (numbers_by (branch line arms other)) k path path site cells (spots_of (set side fixed before site) n k path a (branch line arms other)) (groups_of n path (branch line arms other) site cells) g
+              (λ l. numbers_in_arms arms l || numbers_in other l) (numbers_by (branch line arms other)) k path path site cells (spots_of (set side fixed before site) n k path a (branch line arms other)) (groups_of n path (branch line arms other) site cells) g (key_one n a path (branch line arms other) site cells d r.ran g h)
               (omega arith) (omega arith) (omega arith) (λ l h. h) (λ x u. beneath_weaker (FromArm n 0) (AtNumber n) path x (arm_number n) u) i;
           stored = λ v g. tt;
         }
@@ -418,6 +484,7 @@ module _ (side : Side) (fixed : List ℕ → Bool) (before : Cells) (range : ℕ
         record {
           found = record {
             spot = spot_at k a path os;
+            begins = refl;
             among = inl refl;
             beneath = ([], sym (append_nil path), tt);
             told = record {
@@ -481,6 +548,7 @@ module _ (side : Side) (fixed : List ℕ → Bool) (before : Cells) (range : ℕ
         record {
           found = record {
             spot = i.spot;
+            begins = i.begins;
             among = inr i.among;
             beneath = beneath_deeper (FromNumber (n + 1)) (AtNumber n) path (Body n) i.spot (λ r w. refl) i.beneath;
             told = then_told side fixed before n (n + 1) (n + 1 + statements_count body) (n + statement_count whole) a (a + length os) (a + length os + length inner_accesses) (a + length all) no_loops (numbers_by whole) (numbers_by whole) k k site site cells cells i.spot.path
@@ -493,9 +561,9 @@ module _ (side : Side) (fixed : List ℕ → Bool) (before : Cells) (range : ℕ
           stored = λ v g. tt;
         }
 
-    pub found_all : (n a : ℕ) (k : Known) (path : List PathStep) (ss : Statements) (site : Site) (cells d : Cells) → RanAll side fixed before ss site cells d → AreNumbered range ss →
-        (g : Group) → In g (groups_of_all n path ss site cells) →
-        Found (FromNumber n) n (n + statements_count ss) a (a + length (accesses_all (scope_at site) n path ss)) (numbers_in ss) k path site cells (spots_in (set side fixed before site) n k path a ss) (groups_of_all n path ss site cells) g
+    pub found_all : (n a : ℕ) (k : Known) (path : List PathStep) (ss : Statements) (site : Site) (cells d : Cells) (r : RanAll side fixed before ss site cells d) → AreNumbered range ss →
+        (g : Group) (h : In g (groups_of_all n path ss site cells)) →
+        Found (FromNumber n) n (n + statements_count ss) a (a + length (accesses_all (scope_at site) n path ss)) (numbers_in ss) k path site cells (spots_in (set side fixed before site) n k path a ss) (groups_of_all n path ss site cells) g (key_all n a path ss site cells d r.ran g h)
     found_all n a k path no_statements site cells d r num g h = absurd h
     found_all n a k path (statement s ss) site cells d r num g h =
         let b = bound (run s site cells) (run_all ss site) d r.ran in
@@ -514,13 +582,15 @@ module _ (side : Side) (fixed : List ℕ → Bool) (before : Cells) (range : ℕ
         let rest = rest_ran side fixed before s ss site cells d r b.value b.first b.second in
         let e : a + length own + length others ≡ a + length (own ++ others) = in_both side fixed before n 0 s ss a (scope_at site) path in
         let sequential = (and_parts (is_sequential s) (are_sequential ss) r.sequential).0 in
-        by_side (Found (FromNumber n) n more a (a + length (own ++ others)) (numbers_in (statement s ss)) k path site cells (xs ++ ys) whole g)
+        either_at (λ z. Found (FromNumber n) n more a (a + length (own ++ others)) (numbers_in (statement s ss)) k path site cells (xs ++ ys) whole g
+        (either ℕ z (λ q. key_one n a path s site cells b.value b.first g q) (λ q. key_all m (a + length own) path ss site b.value d b.second g (of_result g (run s site cells).out b.value (groups_of_all m path ss site) b.first q))))
         (split g gs (groups_from (run s site cells).out (groups_of_all m path ss site)) h)
         (λ q.
         let i = found_one n a k path s site cells b.value first num.0 g q in
         let u = all_told side fixed before m (a + length own) after path site b.value d i.found.spot.path ss i.found.beneath.0 i.found.beneath.1 (outside_behind n m (m + statements_count ss) (omega (arith, c)) i.found.beneath.0 i.found.beneath.2) rest in
         record {
           spot = i.found.spot;
+          begins = i.found.begins;
           among = in_left i.found.spot xs ys i.found.among;
           beneath = beneath_weaker (AtNumber n) (FromNumber n) path i.found.spot (at_from n) i.found.beneath;
           told = then_told side fixed before n m (m + statements_count ss) more a (a + length own) (a + length own + length others) (a + length (own ++ others)) (numbers_by s) no_loops (numbers_in (statement s ss)) k after site site cells b.value i.found.spot.path xs ys gs hs whole
@@ -535,6 +605,7 @@ module _ (side : Side) (fixed : List ℕ → Bool) (before : Cells) (range : ℕ
         let knows : (v : Atom → ℤ) → Agrees v t.told.bindings → HoldsKnown v k site cells → HoldsKnown v after site b.value = λ v g h. known_after_holds v side n s k site cells b.value sequential b.first (t.stored v g) h in
         record {
           spot = i.spot;
+          begins = i.begins;
           among = in_right i.spot xs ys i.among;
           beneath = beneath_weaker (FromNumber m) (FromNumber n) path i.spot (later_from n (statement_count s)) i.beneath;
           told = then_told side fixed before n m (m + statements_count ss) more a (a + length own) (a + length own + length others) (a + length (own ++ others)) no_loops (numbers_in ss) (numbers_in (statement s ss)) k after site site cells b.value i.spot.path xs ys gs hs whole
@@ -544,21 +615,29 @@ module _ (side : Side) (fixed : List ℕ → Bool) (before : Cells) (range : ℕ
           own = λ v w h rd. i.own v (agrees_right v t.told.bindings i.told.bindings w) (knows v (agrees_left v t.told.bindings i.told.bindings w) h) rd;
         })
 
-    found_arms : (line n j m a : ℕ) (k : Known) (path : List PathStep) (arms : Arms) (other : Statements) (site : Site) (cells d : Cells) → ArmsRan line m arms other site cells d → AreNumberedArms range arms →
-        (g : Group) →
-        ((i : ℕ) (h : Known) (steps : List PathStep) (b : ℕ) → RanAll side fixed before other site cells d → In g (groups_of_all i steps other site cells) →
-        Found (FromNumber i) i (i + statements_count other) b (b + length (accesses_all (scope_at site) i steps other)) (numbers_in other) h steps site cells (spots_in (set side fixed before site) i h steps b other) (groups_of_all i steps other site cells) g) →
-        In g (groups_of_arms line n j m path arms (λ i steps. groups_of_all i steps other) site cells) →
+    found_arms : (line n j m a : ℕ) (k : Known) (path : List PathStep) (arms : Arms) (other : Statements) (site : Site) (cells d : Cells) (r : ArmsRan line m arms other site cells d) → AreNumberedArms range arms →
+        (g : Group) (keys : (i : ℕ) (steps : List PathStep) (b : ℕ) → (run_all other site cells).out ≡ Ok d → In g (groups_of_all i steps other site cells) → ℕ) →
+        ((i : ℕ) (h : Known) (steps : List PathStep) (b : ℕ) (q : RanAll side fixed before other site cells d) (w : In g (groups_of_all i steps other site cells)) →
+        Found (FromNumber i) i (i + statements_count other) b (b + length (accesses_all (scope_at site) i steps other)) (numbers_in other) h steps site cells (spots_in (set side fixed before site) i h steps b other) (groups_of_all i steps other site cells) g (keys i steps b q.ran w)) →
+        (h : In g (groups_of_arms line n j m path arms (λ i steps. groups_of_all i steps other) site cells)) →
         Found (FromArm n m) j (j + (arms_count arms + statements_count other)) a (a + length (arms_accesses (scope_at site) line n j m path arms (λ i steps. accesses_all (scope_at site) i steps other)))
         (λ l. numbers_in_arms arms l || numbers_in other l) k path site cells (spots_in_arms (set side fixed before site) line n j m k path a arms (λ i h steps b. spots_in (set side fixed before site) i h steps b other))
-        (groups_of_arms line n j m path arms (λ i steps. groups_of_all i steps other) site cells) g
-    found_arms line n j m a k path no_arms other site cells d r num g rest h =
+        (groups_of_arms line n j m path arms (λ i steps. groups_of_all i steps other) site cells) g (key_arms line n j m a path arms other site cells d r.ran g keys h)
+    found_arms line n j m a k path no_arms other site cells d r num g keys rest h =
         let at = path ++ Arm n m ∷ [] in
         let i = rest j k at a (record { sequential = r.others; ran = other_run site cells line m (run_all other) d r.ran; sound = r.sound; off = r.off; holds = r.holds }) h in
         found_wider (FromNumber j) (FromArm n m) j (j + statements_count other) a (a + length (accesses_all (scope_at site) j at other)) j (j + (arms_count no_arms + statements_count other)) (a + length (accesses_all (scope_at site) j at other))
-        (numbers_in other) (λ l. numbers_in_arms no_arms l || numbers_in other l) k path at site cells (spots_in (set side fixed before site) j k at a other) (groups_of_all j at other site cells) g
+        (numbers_in other) (λ l. numbers_in_arms no_arms l || numbers_in other l) k path at site cells (spots_in (set side fixed before site) j k at a other) (groups_of_all j at other site cells) g (keys j at a (other_run site cells line m (run_all other) d r.ran) h)
         (omega arith) (omega arith) (omega arith) (λ l h. h) (λ x u. beneath_deeper (FromNumber j) (FromArm n m) path (Arm n m) x (λ r w. in_this_arm n m r) u) i
-    found_arms line n j m a k path (arm test body arms) other site cells d r num g rest h =
-        arm_found line n j m a k path test body arms other site cells d r g h
-        (λ q w. found_all j (a + length (condition_reads (scope_at site) line (test_path path n m) test)) k (path ++ Arm n m ∷ []) body site cells d q num.0 g w)
-        (λ q w. found_arms line n (j + statements_count body) (m + 1) (a + length (condition_reads (scope_at site) line (test_path path n m) test) + length (accesses_all (scope_at site) j (path ++ Arm n m ∷ []) body)) (without (written_in body) k) path arms other site cells d q num.1 g rest w)
+    found_arms line n j m a k path (arm test body arms) other site cells d r num g keys rest (inl e) = test_found line n j m a k path test body arms other site cells d r g e
+    found_arms line n j m a k path (arm test body arms) other site cells d r num g keys rest (inr h) =
+        let tests = condition_reads (scope_at site) line (test_path path n m) test in
+        let at = path ++ Arm n m ∷ [] in
+        let behind = a + length tests + length (accesses_all (scope_at site) j at body) in
+        let t = arm_run site cells test body arms line m (run_all other) d r.ran in
+        by_taken line n j m a k path test body arms other site cells d r g t.taken t.evaluated t.ran
+        (of_result g (holds test site cells).out t.taken (chosen line n j m a k path test body arms other site cells d r g) t.evaluated h)
+        (λ q w. key_all j (a + length tests) at body site cells d q g w)
+        (λ q w. key_arms line n (j + statements_count body) (m + 1) behind path arms other site cells d q g keys w)
+        (λ q w. found_all j (a + length tests) k at body site cells d q num.0 g w)
+        (λ q w. found_arms line n (j + statements_count body) (m + 1) behind (without (written_in body) k) path arms other site cells d q num.1 g keys rest w)

@@ -258,7 +258,7 @@ module _ (side : Side) (fixed : List ℕ → Bool) (before : Cells) where
 
   -- ---- one statement and others behind it
 
-  pub first_ran : (s : Statement) (ss : Statements) (site : Site) (cells d : Cells) → RanAll (statement s ss) site cells d → (c : Cells) → (run s site cells).out ≡ Ok c → Ran s site cells c
+  abbrev pub first_ran : (s : Statement) (ss : Statements) (site : Site) (cells d : Cells) → RanAll (statement s ss) site cells d → (c : Cells) → (run s site cells).out ≡ Ok c → Ran s site cells c
   first_ran s ss site cells d r c h = record {
     sequential = (and_parts (is_sequential s) (are_sequential ss) r.sequential).0;
     ran = h;
@@ -267,7 +267,7 @@ module _ (side : Side) (fixed : List ℕ → Bool) (before : Cells) where
     holds = r.holds;
   }
 
-  pub rest_ran : (s : Statement) (ss : Statements) (site : Site) (cells d : Cells) → RanAll (statement s ss) site cells d → (c : Cells) → (run s site cells).out ≡ Ok c → (run_all ss site c).out ≡ Ok d → RanAll ss site c d
+  abbrev pub rest_ran : (s : Statement) (ss : Statements) (site : Site) (cells d : Cells) → RanAll (statement s ss) site cells d → (c : Cells) → (run s site cells).out ≡ Ok c → (run_all ss site c).out ≡ Ok d → RanAll ss site c d
   rest_ran s ss site cells d r c h g = record {
     sequential = (and_parts (is_sequential s) (are_sequential ss) r.sequential).1;
     ran = g;
