@@ -50,7 +50,7 @@ const TIMES: &[u8] =
     b"subroutine times(n, q, x)\n  integer :: n, q, i, t\n  integer(kind=8) :: x(n)\n  do t = 1, q\n    !$omp parallel do\n    do i = 1, n\n      x(i) = x(i)*x(i)\n    end do\n  end do\nend subroutine times\n";
 
 const KEPT: &[u8] =
-    b"subroutine kept(n, x)\n  integer :: n, i, j\n  integer(kind=8) :: x(n)\n  do i = 1, n\n    !$omp parallel do private(i)\n    do j = 1, n\n      x(j) = x(j)*x(j)\n    end do\n  end do\nend subroutine kept\n";
+    b"subroutine kept(n, x)\n  integer :: n, i, j\n  integer(kind=8) :: x(n)\n  do i = 1, n\n    x(i) = x(i)*x(i)\n    !$omp parallel do private(i)\n    do j = 1, n\n      x(j) = x(j)*x(j)\n    end do\n  end do\nend subroutine kept\n";
 
 const BY_X_OF_Y: &[&[u8]] = &[b"run", b"p.f90", b"d.json", b"s.json", b"of=y", b"wrt=x"];
 
@@ -66,7 +66,7 @@ const BY_X_OF_X: &[&[u8]] = &[b"run", b"p.f90", b"d.json", b"s.json", b"of=x", b
 
 const BY_X_S_OF_S: &[&[u8]] = &[b"run", b"p.f90", b"d.json", b"s.json", b"of=s", b"wrt=x,s"];
 
-/// Answers, conflicts, traps, and a program that isn't run backward yet.
+/// Answers, conflicts and traps; in the last program a parallel loop unsets the variable of the loop around it.
 static RUNS: [Call; 19] = [
     Call {
         words: BY_X_OF_Y,
@@ -295,8 +295,8 @@ static RUNS: [Call; 19] = [
             (b"s.json", b"{\"x\":[1,10]}"),
         ],
         fails: 0,
-        status: Status::Refused,
-        text: b"refused: not built\n",
+        status: Status::Done,
+        text: b"{\"adds\":8,\"adjoint\":{\"x\":[1024,174960]},\"choices\":[\"2:x:atomic\"],\"value\":{\"x\":[256,6561]}}\n",
     },
 ];
 
