@@ -45,7 +45,7 @@ use Rattle.undo_steps.specs.UndoSteps.{UndoTrees}
 use Rattle.undo_steps.specs.UndosStand.{AllUndoStand}
 use Rattle.reverse_sweep.specs.Reversing.{Reversing}
 use Rattle.reverse_law.proofs.Reversed.{reverse_played, program_named}
-use Rattle.sound_programs.specs.Uses.{outer_use, all_keep_variables}
+use Rattle.sound_programs.specs.Uses.{outer_use}
 use Rattle.sound_programs.specs.Accepted.{IsAccepted, world_of_program, made_choices}
 use Rattle.sound_programs.proofs.Inactive.{inactive_zero}
 use Rattle.sound_programs.proofs.Layouts.{extra, extra_keys, plain_key}
@@ -188,12 +188,12 @@ record Setting (p : Program) (args : Args) (weights : Weights) (of wrt : List (L
 
 setting_of : (p : Program) (args : Args) (weights : Weights) (of wrt : List (List ℕ)) (limits : Limits) (ended : Cells) (left : List ℕ)
     → let shapes = shapes_of p args.entries in
-    IsAccepted p of wrt → all_keep_variables p ≡ true → AreSmall args.entries → AreSmall weights.entries → AreAmong of weights.entries
+    IsAccepted p of wrt → AreSmall args.entries → AreSmall weights.entries → AreAmong of weights.entries
     → values_out (forward_run p shapes args of wrt).out ≡ Ok ended
     → first_stop by_conflict limits (events (forward_run p shapes args of wrt).log) ≡ at_end
     → IsBack p shapes args weights of wrt left
     → Setting p args weights of wrt left
-setting_of p args weights of wrt limits ended left a kept small light asked out stop back =
+setting_of p args weights of wrt limits ended left a small light asked out stop back =
     record { long = long_left; active = active_at; quiet = quiet_at }
   where
     shapes : List Shape
@@ -314,7 +314,7 @@ setting_of p args weights of wrt limits ended left a kept small light asked out 
         let m = named x j l k in
         let v = value_at x h j l m in
         ap (λ c. slice_index c (n + j)) left_is
-        ∙ (made_machine p of wrt args.entries limits words vs seed s2 j v.0 back.us a kept back.stands words_small out_same stop_same like
+        ∙ (made_machine p of wrt args.entries limits words vs seed s2 j v.0 back.us a back.stands words_small out_same stop_same like
         (long_with n (length keys) own values long_values room refl) (long_with n (length keys) own seeds long_seeds room refl)
         (words_and_zeros seeds own (places_small shapes weights.entries light)) dead l v.1 (ap (λ y. has_name y wrt) m ∙ h)
         (ap (is_active p of wrt) m ∙ on)
@@ -325,7 +325,7 @@ setting_of p args weights of wrt limits ended left a kept small light asked out 
     quiet_at x h off j l k =
         let m = named x j l k in
         sym (more j)
-        ∙ inactive_zero p of wrt args.entries words seed j a kept words_small dead (ap (λ y. has_name y wrt) m ∙ h) (ap (is_active p of wrt) m ∙ off)
+        ∙ inactive_zero p of wrt args.entries words seed j a words_small dead (ap (λ y. has_name y wrt) m ∙ h) (ap (is_active p of wrt) m ∙ off)
 
 -- ---- the answer
 
@@ -369,7 +369,7 @@ end_is_final p shapes args of wrt =
     (stmt_trees p.body) (λ e. refl) (cells_along [] (entry_cells (program_tree p) shapes (place_words shapes args.entries))))
 
 pub made_answered : MadeIsAnswered
-made_answered p args weights of wrt limits ended left a kept small light asked out stop back = record {
-  adjoint = ap with_entries (adjoint_shown p args weights of wrt left (setting_of p args weights of wrt limits ended left a kept small light asked out stop back));
+made_answered p args weights of wrt limits ended left a small light asked out stop back = record {
+  adjoint = ap with_entries (adjoint_shown p args weights of wrt left (setting_of p args weights of wrt limits ended left a small light asked out stop back));
   value = ap (λ (ws : List ℕ). shown_at p (shapes_of p args.entries) ws of) (end_is_final p (shapes_of p args.entries) args of wrt);
 }

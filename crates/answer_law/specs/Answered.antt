@@ -24,7 +24,6 @@ use Rattle.undo_steps.specs.UndosStand.{AllUndoStand}
 use Rattle.reverse_sweep.specs.Reversing.{reversing}
 use Rattle.reverse_sweep.specs.Machine.{undos_run}
 use Rattle.reverse_law.specs.Reverse.{at_first}
-use Rattle.sound_programs.specs.Uses.{all_keep_variables}
 use Rattle.sound_programs.specs.Accepted.{IsAccepted}
 use Rattle.data_io.specs.DataFaults.{entries_of}
 use Rattle.answers.specs.Runs.{shown_at, values_of, adjoints_of}
@@ -72,7 +71,7 @@ abbrev pub MadeIsAnswered : Type 0
 MadeIsAnswered =
     (program : Program) (args : Args) (weights : Weights) (of wrt : List (List ℕ)) (limits : Limits) (ended : Cells) (left : List ℕ)
     → let shapes = shapes_of program args.entries in
-    IsAccepted program of wrt → all_keep_variables program ≡ true → AreSmall args.entries → AreSmall weights.entries → AreAmong of weights.entries
+    IsAccepted program of wrt → AreSmall args.entries → AreSmall weights.entries → AreAmong of weights.entries
     → values_out (forward_run program shapes args of wrt).out ≡ Ok ended
     → first_stop by_conflict limits (events (forward_run program shapes args of wrt).log) ≡ at_end
     → IsBack program shapes args weights of wrt left

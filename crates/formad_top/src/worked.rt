@@ -50,7 +50,31 @@ const TIMES: &[u8] =
     b"subroutine times(n, q, x)\n  integer :: n, q, i, t\n  integer(kind=8) :: x(n)\n  do t = 1, q\n    !$omp parallel do\n    do i = 1, n\n      x(i) = x(i)*x(i)\n    end do\n  end do\nend subroutine times\n";
 
 const KEPT: &[u8] =
-    b"subroutine kept(n, x)\n  integer :: n, i, j\n  integer(kind=8) :: x(n)\n  do i = 1, n\n    !$omp parallel do private(i)\n    do j = 1, n\n      x(j) = x(j)*x(j)\n    end do\n  end do\nend subroutine kept\n";
+    b"subroutine kept(n, x)\n  integer :: n, i, j\n  integer(kind=8) :: x(n)\n  do i = 1, n\n    x(i) = x(i)*x(i)\n    !$omp parallel do private(i)\n    do j = 1, n\n      x(j) = x(j)*x(j)\n    end do\n  end do\nend subroutine kept\n";
+
+const SQUARE_OF_A_BYTE: &[u8] =
+    b"subroutine square(x, y)\n  !\n  integer(kind=1) :: x, y\n  y = x*x\nend subroutine square\n";
+
+const SQUARE_OF_TWO_BYTES: &[u8] =
+    b"subroutine square(x, y)\n  !\n  integer(kind=2) :: x, y\n  y = x*x\nend subroutine square\n";
+
+const GATHER_OF_BYTES: &[u8] =
+    b"subroutine gather(n, p, c, x, y)\n  integer :: n, p, i, c(n)\n  integer(kind=1) :: x(p), y(n)\n  !$omp parallel do\n  do i = 1, n\n    y(i) = x(c(i))\n  end do\nend subroutine gather\n";
+
+const LIN: &[u8] =
+    b"subroutine lin(n, x, y)\n  integer :: n, i, j\n  integer(kind=8) :: x(4*n), y(n,4)\n  !$omp parallel do collapse(2)\n  do i = 1, n\n    do j = 1, 4\n      y(i,j) = x(4*(i-1)+j)\n    end do\n  end do\nend subroutine lin\n";
+
+const BLOCK5: &[u8] =
+    b"subroutine block5(n, s, x)\n  integer :: n, i, j\n  integer(kind=8) :: s(n), x(4*n+1)\n  !$omp parallel do\n  do i = 1, n\n    do j = 1, 5\n      s(i) = s(i) + x(4*(i-1)+j)\n    end do\n  end do\nend subroutine block5\n";
+
+const DOUBLED: &[u8] =
+    b"subroutine doubled(n, c, x, y)\n  integer :: n, i, c(n)\n  integer(kind=8) :: x(n), y(2*n)\n  !$omp parallel do\n  do i = 1, n\n    y(2*c(i)) = x(c(i))\n  end do\nend subroutine doubled\n";
+
+const FILL: &[u8] =
+    b"subroutine fill(n, q, x, y, z)\n  integer :: n, q, i, t\n  integer(kind=8) :: x, y(n), z(n)\n  do t = 1, q\n    !$omp parallel do\n    do i = 1, n\n      y(i) = 1\n      z(i) = 2\n    end do\n  end do\nend subroutine fill\n";
+
+const PICK: &[u8] =
+    b"subroutine pick(n, x, y)\n  integer :: n, i\n  integer(kind=8) :: x(n), y(n)\n  !$omp parallel do\n  do i = 1, n\n    if (x(i) < 0) then\n      y(i) = abs(x(i))\n    else\n      y(i) = max(x(i), 4_8)**2\n    end if\n  end do\nend subroutine pick\n";
 
 const BY_X_OF_Y: &[&[u8]] = &[b"run", b"p.f90", b"d.json", b"s.json", b"of=y", b"wrt=x"];
 
@@ -66,7 +90,7 @@ const BY_X_OF_X: &[&[u8]] = &[b"run", b"p.f90", b"d.json", b"s.json", b"of=x", b
 
 const BY_X_S_OF_S: &[&[u8]] = &[b"run", b"p.f90", b"d.json", b"s.json", b"of=s", b"wrt=x,s"];
 
-/// Answers, conflicts, traps, and a program that isn't run backward yet.
+/// Answers, conflicts and traps; in the last program a parallel loop unsets the variable of the loop around it.
 static RUNS: [Call; 19] = [
     Call {
         words: BY_X_OF_Y,
@@ -295,12 +319,124 @@ static RUNS: [Call; 19] = [
             (b"s.json", b"{\"x\":[1,10]}"),
         ],
         fails: 0,
-        status: Status::Refused,
-        text: b"refused: not built\n",
+        status: Status::Done,
+        text: b"{\"adds\":8,\"adjoint\":{\"x\":[1024,174960]},\"choices\":[\"2:x:atomic\"],\"value\":{\"x\":[256,6561]}}\n",
     },
 ];
 
 #[test]
 fn runs_small_programs(rt: HostRuntime) -> Result<(), Memory> {
     expect_calls(&rt, rt.alloc(), &RUNS)
+}
+
+/// Data of one and two bytes, two loops as one, elements that iterations share, names that nothing is asked of, and branches.
+static FURTHER: [Call; 8] = [
+    Call {
+        words: BY_X_OF_Y,
+        files: &[
+            (b"p.f90", SQUARE_OF_A_BYTE),
+            (b"d.json", b"{\"x\":100,\"y\":0}"),
+            (b"s.json", b"{\"y\":1}"),
+        ],
+        fails: 0,
+        status: Status::Done,
+        text: b"{\"adds\":0,\"adjoint\":{\"x\":-56},\"choices\":[],\"value\":{\"y\":16}}\n",
+    },
+    Call {
+        words: BY_X_OF_Y,
+        files: &[
+            (b"p.f90", SQUARE_OF_TWO_BYTES),
+            (b"d.json", b"{\"x\":300,\"y\":0}"),
+            (b"s.json", b"{\"y\":1}"),
+        ],
+        fails: 0,
+        status: Status::Done,
+        text: b"{\"adds\":0,\"adjoint\":{\"x\":600},\"choices\":[],\"value\":{\"y\":24464}}\n",
+    },
+    Call {
+        words: BY_X_OF_Y,
+        files: &[
+            (b"p.f90", GATHER_OF_BYTES),
+            (
+                b"d.json",
+                b"{\"n\":2,\"p\":1,\"c\":[1,1],\"x\":[5],\"y\":[0,0]}",
+            ),
+            (b"s.json", b"{\"y\":[100,100]}"),
+        ],
+        fails: 0,
+        status: Status::Done,
+        text: b"{\"adds\":2,\"adjoint\":{\"x\":[-56]},\"choices\":[\"1:x:atomic\"],\"value\":{\"y\":[5,5]}}\n",
+    },
+    Call {
+        words: BY_X_OF_Y,
+        files: &[
+            (b"p.f90", LIN),
+            (
+                b"d.json",
+                b"{\"n\":2,\"x\":[1,2,3,4,5,6,7,8],\"y\":[0,0,0,0,0,0,0,0]}",
+            ),
+            (b"s.json", b"{\"y\":[1,2,3,4,5,6,7,8]}"),
+        ],
+        fails: 0,
+        status: Status::Done,
+        text: b"{\"adds\":8,\"adjoint\":{\"x\":[1,3,5,7,2,4,6,8]},\"choices\":[\"1:x:atomic\"],\"value\":{\"y\":[1,5,2,6,3,7,4,8]}}\n",
+    },
+    Call {
+        words: BY_X_OF_S,
+        files: &[
+            (b"p.f90", BLOCK5),
+            (
+                b"d.json",
+                b"{\"n\":2,\"s\":[0,0],\"x\":[1,2,3,4,5,6,7,8,9]}",
+            ),
+            (b"s.json", b"{\"s\":[1,10]}"),
+        ],
+        fails: 0,
+        status: Status::Done,
+        text: b"{\"adds\":10,\"adjoint\":{\"x\":[1,1,1,1,11,10,10,10,10]},\"choices\":[\"1:x:atomic\"],\"value\":{\"s\":[15,35]}}\n",
+    },
+    Call {
+        words: BY_X_OF_Y,
+        files: &[
+            (b"p.f90", DOUBLED),
+            (
+                b"d.json",
+                b"{\"n\":2,\"c\":[2,1],\"x\":[5,6],\"y\":[0,0,0,0]}",
+            ),
+            (b"s.json", b"{\"y\":[1,10,100,1000]}"),
+        ],
+        fails: 0,
+        status: Status::Done,
+        text: b"{\"adds\":2,\"adjoint\":{\"x\":[10,1000]},\"choices\":[\"1:x:atomic\"],\"value\":{\"y\":[0,5,0,6]}}\n",
+    },
+    Call {
+        words: BY_X_OF_X,
+        files: &[
+            (b"p.f90", FILL),
+            (
+                b"d.json",
+                b"{\"n\":2,\"q\":3,\"x\":7,\"y\":[0,0],\"z\":[0,0]}",
+            ),
+            (b"s.json", b"{\"x\":1}"),
+        ],
+        fails: 0,
+        status: Status::Done,
+        text: b"{\"adds\":0,\"adjoint\":{\"x\":1},\"choices\":[],\"value\":{\"x\":7}}\n",
+    },
+    Call {
+        words: BY_X_OF_Y,
+        files: &[
+            (b"p.f90", PICK),
+            (b"d.json", b"{\"n\":3,\"x\":[-2,3,5],\"y\":[0,0,0]}"),
+            (b"s.json", b"{\"y\":[1,10,100]}"),
+        ],
+        fails: 0,
+        status: Status::Done,
+        text: b"{\"adds\":3,\"adjoint\":{\"x\":[-1,0,1000]},\"choices\":[\"1:x:atomic\"],\"value\":{\"y\":[2,16,25]}}\n",
+    },
+];
+
+#[test]
+fn runs_further_programs(rt: HostRuntime) -> Result<(), Memory> {
+    expect_calls(&rt, rt.alloc(), &FURTHER)
 }

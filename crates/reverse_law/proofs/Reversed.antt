@@ -51,9 +51,9 @@ pub program_named : ProgramIsNamed
 program_named p shapes pushed active choices = record { keys = refl; width = refl; kinds = kinds_at p.decls (with_scalars shapes p.decls) }
 
 pub machine_transposed : MachineIsTransposed
-machine_transposed p shapes pushed active choices u limits words vs seed s2 j d us h sound apart small out calm like wide long areas zeros inside held live moved =
+machine_transposed p shapes pushed active choices u limits words vs seed s2 j d us h sound free apart small out calm like wide long areas zeros inside held live moved =
     let w = program_world p shapes pushed active choices in
     let s = entry_cells p shapes words in
     let l = local w.shared (tape_after (run_all p.body w.site s).log empty) vs seed in
     ap (λ (r : Reversing). slice_index r.stage.cells (w.shared + j)) (reverse_played (names_of shapes p.decls) w us p.body l (flat w.shared vs seed) (program_named p shapes pushed active choices) h)
-    ∙ program_transposed p shapes pushed active choices u limits words vs seed s2 j d sound apart small out calm like wide long areas zeros inside held live moved
+    ∙ program_transposed p shapes pushed active choices u limits words vs seed s2 j d sound free apart small out calm like wide long areas zeros inside held live moved

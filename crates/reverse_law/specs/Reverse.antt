@@ -1,5 +1,5 @@
 -- What the machine of reverse sweeps is to do: what the reverse part's trees of operations play.
-use Rattle.std.specs.Prelude.{◌≡◌, ℕ, ◌+◌, ◌<◌, ◌^◌, All, true, false, Bool, List, [], length, Option, Some, Ok, slice_index, if◌then◌else◌}
+use Rattle.std.specs.Prelude.{◌≡◌, ℕ, ◌+◌, ◌<◌, ◌^◌, All, true, false, Bool, List, [], length, Option, Some, None, Ok, slice_index, if◌then◌else◌}
 use Rattle.fl_ast.specs.declared.directive.Directive.{Directive}
 use Rattle.fl_ast.specs.Tree.{Statements, Subroutine}
 use Rattle.fl_types.specs.declared.choice.Choice.{Choice}
@@ -76,7 +76,7 @@ MachineIsTransposed =
     → let names = names_of shapes p.decls in
     let w = program_world p shapes pushed active choices in
     let s = entry_cells p shapes words in
-    AllUndoStand names w us p.body → SoundAll w u p.body → PairwiseAll SharedApart p.body w (cells_along (unit j) s) → All (λ x. x < 2 ^ 64) words → (run_of p shapes pushed s).out ≡ Ok s2 → first_stop by_conflict limits (events (run_of p shapes pushed s).log) ≡ at_end
+    AllUndoStand names w us p.body → SoundAll w u p.body → ((x : List ℕ) → u.held x ≡ None) → PairwiseAll SharedApart p.body w (cells_along (unit j) s) → All (λ x. x < 2 ^ 64) words → (run_of p shapes pushed s).out ≡ Ok s2 → first_stop by_conflict limits (events (run_of p shapes pushed s).log) ≡ at_end
     → Like u w.site.keys vs s2 → length vs ≡ length w.site.keys → length seed ≡ length w.site.keys → AreWords seed → ((q : ℕ) → u.live (name_at w.site.keys q) ≡ false → u.moved (name_at w.site.keys q) ≡ true → slice_index seed q ≡ 0)
     → j < w.shared → content s j ≡ Some (Ring d) → u.live (name_at w.site.keys j) ≡ true → u.moved (name_at w.site.keys j) ≡ true
     → slice_index (undos_run names w.shared us (reversing (local w.shared (tape_after (run_all p.body w.site s).log empty) vs seed) (at_first (flat w.shared vs seed)))).stage.cells (w.shared + j) ≡ adjoint_of p shapes words seed j

@@ -36,15 +36,15 @@ cell_played p of wrt values choices words vs seed us q h =
     (program_named (program_tree p) (shapes_of p values) (is_needed p (is_active p of wrt)) (is_active p of wrt) choices) h)
 
 pub machine_accepted : MachineIsAccepted
-machine_accepted p of wrt values choices limits words vs seed s2 j d us a kept fitting h apart small run stop like wide long
+machine_accepted p of wrt values choices limits words vs seed s2 j d us a fitting h apart small run stop like wide long
     bounded dead there content asked active =
     cell_played p of wrt values choices words vs seed us ((world_of_program p of wrt values choices).shared + j) h
-    ∙ accepted_transposed p of wrt values choices limits words vs seed s2 j d a kept fitting apart small run stop like wide long bounded dead
+    ∙ accepted_transposed p of wrt values choices limits words vs seed s2 j d a fitting apart small run stop like wide long bounded dead
     there content asked active
 
 pub made_machine : MadeMachineIsTransposed
-made_machine p of wrt values limits words vs seed s2 j d us a kept h small run stop like wide long
+made_machine p of wrt values limits words vs seed s2 j d us a h small run stop like wide long
     bounded dead there content asked active =
     cell_played p of wrt values (made_choices p of wrt) words vs seed us ((world_of_program p of wrt values (made_choices p of wrt)).shared + j) h
-    ∙ made_transposed p of wrt values limits words vs seed s2 j d a kept small run stop like wide long bounded dead
+    ∙ made_transposed p of wrt values limits words vs seed s2 j d a small run stop like wide long bounded dead
     there content asked active

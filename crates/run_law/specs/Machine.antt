@@ -26,7 +26,7 @@ use Rattle.undo_steps.specs.UndosStand.{AllUndoStand}
 use Rattle.reverse_sweep.specs.Reversing.{reversing}
 use Rattle.reverse_sweep.specs.Machine.{undos_run}
 use Rattle.reverse_law.specs.Reverse.{at_first}
-use Rattle.sound_programs.specs.Uses.{outer_use, all_keep_variables, AreFitting}
+use Rattle.sound_programs.specs.Uses.{outer_use, AreFitting}
 use Rattle.sound_programs.specs.Accepted.{IsAccepted, world_of_program, made_choices}
 
 -- the names of a program's table
@@ -49,7 +49,7 @@ MachineIsAccepted =
     (s2 : Cells) (j : ℕ) (d : Dual) (us : UndoTrees)
     → let w = world_of_program p of wrt values choices in
     let s = entry_cells (program_tree p) (shapes_of p values) words in
-    IsAccepted p of wrt → all_keep_variables p ≡ true → AreFitting p (is_active p of wrt) choices
+    IsAccepted p of wrt → AreFitting p (is_active p of wrt) choices
     → AllUndoStand (names_in p values) w us (stmt_trees p.body)
     → PairwiseAll SharedApart (stmt_trees p.body) w (cells_along (unit j) s) → All (λ x. x < 2 ^ 64) words
     → (run_of (program_tree p) (shapes_of p values) (is_needed p (is_active p of wrt)) s).out ≡ Ok s2
@@ -66,7 +66,7 @@ MadeMachineIsTransposed =
     (us : UndoTrees)
     → let w = world_of_program p of wrt values (made_choices p of wrt) in
     let s = entry_cells (program_tree p) (shapes_of p values) words in
-    IsAccepted p of wrt → all_keep_variables p ≡ true → AllUndoStand (names_in p values) w us (stmt_trees p.body) → All (λ x. x < 2 ^ 64) words
+    IsAccepted p of wrt → AllUndoStand (names_in p values) w us (stmt_trees p.body) → All (λ x. x < 2 ^ 64) words
     → (run_of (program_tree p) (shapes_of p values) (is_needed p (is_active p of wrt)) s).out ≡ Ok s2
     → first_stop by_conflict limits (events (run_of (program_tree p) (shapes_of p values) (is_needed p (is_active p of wrt)) s).log) ≡ at_end
     → Like (outer_use p of wrt) w.site.keys vs s2 → length vs ≡ length w.site.keys → length seed ≡ length w.site.keys → AreWords seed

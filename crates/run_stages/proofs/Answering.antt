@@ -22,7 +22,6 @@ use Rattle.adjoint_sets.specs.Names.{is_active, is_needed}
 use Rattle.adjoint_sets.proofs.Same.{needed_is}
 use Rattle.forward_law.specs.Forward.{tape_back}
 use Rattle.reverse_run.specs.Undoing.{swept_back, swept_adds}
-use Rattle.sound_programs.specs.Uses.{all_keep_variables}
 use Rattle.sound_programs.specs.Accepted.{IsAccepted}
 use Rattle.data_io.specs.declared.answer.Answer.{Answer}
 use Rattle.answers.specs.Runs.{shown_at, values_of, adjoints_of}
@@ -54,20 +53,20 @@ named p shapes args weights of wrt on need cs tape values adjoints adds a n c t 
     (subst (λ (f : List ℕ → Bool). IsUndoneTo (program_tree p) shapes need f cs tape (values ++ s) adjoints adds) a u))))
 
 pub answered : (p : Program) (shapes : List Shape) (args : Args) (weights : Weights) (of wrt active needed : List (List ℕ)) (cs : List Chosen) (cells : Cells) (tape : List Item) (values adjoints : List ℕ) (adds : ℕ)
-    → shapes ≡ shapes_of p args.entries → IsAccepted p of wrt → all_keep_variables p ≡ true → AreSmall args.entries → AreSmall weights.entries → AreAmong of weights.entries
+    → shapes ≡ shapes_of p args.entries → IsAccepted p of wrt → AreSmall args.entries → AreSmall weights.entries → AreAmong of weights.entries
     → (λ x. has_name x active) ≡ is_active p of wrt → (λ x. has_name x needed) ≡ is_needed p (is_active p of wrt) → cs ≡ choices_of p (λ x. has_name x active)
     → HasRun (forward_run p shapes args of wrt) cells tape → values ≡ end_words p shapes args of wrt
     → IsUndoneTo (program_tree p) shapes (λ x. has_name x needed) (λ x. has_name x active) cs (tape_back tape) (values ++ place_words shapes weights.entries) adjoints adds
     → answer adds (quieted (λ x. has_name x active) (shown_at p shapes adjoints wrt)) (shown_at p shapes values of) cs
     ≡ run_answer p shapes args weights of wrt (adds_of p shapes args weights of wrt)
-answered p shapes args weights of wrt active needed cs cells tape values adjoints adds laid accepted kept small light among a n c r v u =
+answered p shapes args weights of wrt active needed cs cells tape values adjoints adds laid accepted small light among a n c r v u =
     let on = is_active p of wrt in
     let k : cs ≡ run_choices p of wrt = c ∙ ap (choices_of p) a in
     let m = named p shapes args weights of wrt (λ x. has_name x active) (λ x. has_name x needed) cs (tape_back tape) values adjoints adds a n k r.tape_is v u in
     let left : List ℕ = swept_back (names_of shapes p.decls) (length (keys_of shapes)) m.us (tape_left p shapes args of wrt) (further (program_tree p) shapes) (seeded_cells p shapes args weights of wrt) in
     let back : IsBack p shapes args weights of wrt left = record { us = m.us; stands = m.stands; cells = refl } in
     let P : List Shape → Type 0 = λ s. HasRun (forward_run p s args of wrt) cells tape → IsBack p s args weights of wrt left → IsAnswered p s args weights of wrt left in
-    let law : P (shapes_of p args.entries) = λ q b. made_answered p args weights of wrt the_limits cells left accepted kept small light among q.cells_are q.ends b in
+    let law : P (shapes_of p args.entries) = λ q b. made_answered p args weights of wrt the_limits cells left accepted small light among q.cells_are q.ends b in
     let told : IsAnswered p shapes args weights of wrt left = subst P (sym laid) law r back in
     same_answer adds (adds_of p shapes args weights of wrt) (quieted (λ x. has_name x active) (shown_at p shapes adjoints wrt)) (shown_at p shapes (adjoints_of p shapes args weights) wrt)
     (shown_at p shapes values of) (shown_at p shapes (values_of p shapes args) of) cs (run_choices p of wrt)

@@ -10,16 +10,14 @@ use Rattle.ending.proofs.Done.{said_undone, answer_done}
 use Rattle.fl_ast.specs.declared.stmt.Program.{Program}
 use Rattle.formad_words.specs.declared.words.Request.{Request}
 use Rattle.program_stage.proofs.ProgramDone.{subject_done}
-use Rattle.program_stage.specs.Lines.{not_built_plan}
 use Rattle.data_stages.proofs.DataDone.{args_done, seed_done, certificate_done, layout_done}
 use Rattle.store_core.specs.declared.layout.Shape.{Shape}
 use Rattle.store_core.specs.Places.{shapes_of}
 use Rattle.meaning.specs.Stops.{Stop, at_end, trapped, over_statements, over_touches, over_words, conflicted, by_conflict}
 use Rattle.forward_run.specs.Swept.{stop_in}
-use Rattle.sound_programs.specs.Uses.{all_keep_variables}
 use Rattle.run_stages.specs.declared.inputs.Inputs.{Inputs}
 use Rattle.run_stages.specs.Done.{AreInputs, IsRun}
-use Rattle.run_stages.specs.Runs.{data_stage, inputs_stage, kept_stage, answer_stage, run_meaning, ticks_of_run, answer_text}
+use Rattle.run_stages.specs.Runs.{data_stage, inputs_stage, answer_stage, run_meaning, ticks_of_run, answer_text}
 use Rattle.run_stages.specs.Stops.{stop_stage}
 
 -- the inputs that a run has read
@@ -59,56 +57,42 @@ stop_done shapes over_touches rest c h = absurd (said_undone c h)
 stop_done shapes over_words rest c h = absurd (said_undone c h)
 stop_done shapes (conflicted line clash) rest c h = absurd (said_undone c h)
 
-test_done : {files : Files} (b : Bool) (rest : Unit {0} → Plan) {status : Status} {text : List ℕ}
-    → LeadsTo files (if b then rest tt else not_built_plan) status text → status ≡ Done → (b ≡ true) × LeadsTo files (rest tt) status text
-test_done true rest c h = (refl, c)
-test_done false rest c h = absurd (said_undone c h)
-
-kept_done : {files : Files} (p : Program) (rest : Unit {0} → Plan) {status : Status} {text : List ℕ}
-    → LeadsTo files (kept_stage p rest) status text → status ≡ Done → (all_keep_variables p ≡ true) × LeadsTo files (rest tt) status text
-unfolding kept_stage
-kept_done p rest c h = test_done (all_keep_variables p) rest c h
-
 -- a run whose answer is told, with its count of statement instances before it
 answer_told : {files : Files} (request : Request) (inputs : Inputs) (lines : List ℕ → List ℕ)
-    → stop_in by_conflict (run_meaning request inputs) ≡ at_end → all_keep_variables inputs.typed ≡ true
+    → stop_in by_conflict (run_meaning request inputs) ≡ at_end
     → LeadsTo files (answer_stage request inputs (λ t. Answers (lines t))) Done (lines (answer_text request inputs))
-unfolding answer_stage kept_stage
-answer_told {files = files} request inputs lines e k =
-    let P : Stop → Bool → Type 0 = λ s b. LeadsTo files (stop_stage inputs.layout s (λ _. if b then Answers (lines (answer_text request inputs)) else not_built_plan)) Done (lines (answer_text request inputs)) in
-    let Q : Stop → Type 0 = λ s. P s (all_keep_variables inputs.typed) in
-    subst Q (sym e) (subst (P at_end) (sym k) answered)
+unfolding answer_stage
+answer_told {files = files} request inputs lines e =
+    let P : Stop → Type 0 = λ s. LeadsTo files (stop_stage inputs.layout s (λ _. Answers (lines (answer_text request inputs)))) Done (lines (answer_text request inputs)) in
+    subst P (sym e) answered
 
 answer_undone : {files : Files} (request : Request) (inputs : Inputs) (rest : List ℕ → Plan) {status : Status} {text : List ℕ}
     → LeadsTo files (answer_stage request inputs rest) status text → status ≡ Done
-    → (stop_in by_conflict (run_meaning request inputs) ≡ at_end) × (all_keep_variables inputs.typed ≡ true) × LeadsTo files (rest (answer_text request inputs)) status text
+    → (stop_in by_conflict (run_meaning request inputs) ≡ at_end) × LeadsTo files (rest (answer_text request inputs)) status text
 unfolding answer_stage
-answer_undone request inputs rest c h =
-    let a = stop_done inputs.layout (stop_in by_conflict (run_meaning request inputs)) _ c h in
-    let b = kept_done inputs.typed _ a.1 h in
-    (a.0, b.0, b.1)
+answer_undone request inputs rest c h = stop_done inputs.layout (stop_in by_conflict (run_meaning request inputs)) _ c h
 
 -- a run whose inputs were found and that nothing stops, from its text and its count of statement instances
 pub run_done : {files : Files} (request : Request) (found : Inputs) (text : List ℕ) (before after : ℕ)
     → ((rest : Inputs → Plan) (status : Status) (line : List ℕ) → LeadsTo files (rest found) status line → LeadsTo files (inputs_stage request rest) status line)
-    → stop_in by_conflict (run_meaning request found) ≡ at_end → all_keep_variables found.typed ≡ true
+    → stop_in by_conflict (run_meaning request found) ≡ at_end
     → text ≡ answer_text request found → after ≡ before + ticks_of_run request found → IsRun files request text before after
-run_done {files = files} request found text before after told ends kept wrote ticked =
+run_done {files = files} request found text before after told ends wrote ticked =
     let rest : Inputs → Plan = λ inputs. answer_stage request inputs (λ t. Answers (ticks_of_run request inputs ∷ t)) in
     let line : List ℕ = ticks_of_run request found ∷ answer_text request found in
-    let led : LeadsTo files (inputs_stage request rest) Done line = told rest Done line (answer_told request found (λ t. ticks_of_run request found ∷ t) ends kept) in
+    let led : LeadsTo files (inputs_stage request rest) Done line = told rest Done line (answer_told request found (λ t. ticks_of_run request found ∷ t) ends) in
     let done = inputs_done request rest led refl in
     let last = answer_undone request done.0 _ done.2 refl in
-    let same : ticks_of_run request done.0 ∷ answer_text request done.0 ≡ line = answer_done last.2 in
+    let same : ticks_of_run request done.0 ∷ answer_text request done.0 ≡ line = answer_done last.1 in
     let count : ticks_of_run request done.0 ≡ ticks_of_run request found = cc in
     let words : answer_text request done.0 ≡ answer_text request found = cc in
-    record { inputs = done.0; given = done.1; ends = last.0; kept = last.1; wrote = words ∙ sym wrote; ticked = ticked ∙ ap (λ n. before + n) (sym count) }
+    record { inputs = done.0; given = done.1; ends = last.0; wrote = words ∙ sym wrote; ticked = ticked ∙ ap (λ n. before + n) (sym count) }
 
 -- the same of whatever comes of the answer
 pub run_told : (contents : Option Files) (request : Request) (found : Inputs) (result : Result (Vec ℕ Global) Early) (before after : ℕ)
     → ((files : Files) → contents ≡ Some files → (rest : Inputs → Plan) (status : Status) (line : List ℕ) → LeadsTo files (rest found) status line → LeadsTo files (inputs_stage request rest) status line)
-    → IfOk result (λ text. stop_in by_conflict (run_meaning request found) ≡ at_end) → IfOk result (λ text. all_keep_variables found.typed ≡ true)
+    → IfOk result (λ text. stop_in by_conflict (run_meaning request found) ≡ at_end)
     → IfOk result (λ text. text.items ≡ answer_text request found) → OnOk result (after ≡ before + ticks_of_run request found)
     → IfOk result (λ text. (files : Files) → contents ≡ Some files → IsRun files request text.items before after)
-run_told contents request found (Ok text) before after told ends kept wrote ticked = λ files e. run_done request found text.items before after (told files e) ends kept wrote ticked
-run_told contents request found (Err early) before after told ends kept wrote ticked = tt
+run_told contents request found (Ok text) before after told ends wrote ticked = λ files e. run_done request found text.items before after (told files e) ends wrote ticked
+run_told contents request found (Err early) before after told ends wrote ticked = tt

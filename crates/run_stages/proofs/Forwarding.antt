@@ -1,5 +1,5 @@
 -- What is due for the stops of a run.
-use Rattle.std.proofs.Common.{◌≡◌, ℕ, ◌+◌, Bool, true, false, if◌then◌else◌, List, [], Result, Ok, Err, refl, sym, ap, subst, ◌∙◌}
+use Rattle.std.proofs.Common.{◌≡◌, ℕ, ◌+◌, List, [], Result, Ok, Err, refl, sym, ap, subst, ◌∙◌}
 use Rattle.ending.specs.declared.early.Early.{Early}
 use Rattle.ending.specs.Stage.{IsSaying, IsSaid, IsPart}
 use Rattle.ending.specs.Plan.{Plan, LeadsTo}
@@ -19,9 +19,6 @@ use Rattle.forward_run.specs.declared.sweep.Forwarded.{Forwarded}
 use Rattle.forward_run.specs.Swept.{Left, IsStop, stop_in, ticks_in, ForwardsAs}
 use Rattle.one_thread.specs.Back.{HasRun}
 use Rattle.answers.specs.Sweeps.{forward_run}
-use Rattle.sound_programs.specs.Uses.{all_keep_variables}
-use Rattle.program_stage.specs.Lines.{not_built_plan}
-use Rattle.run_stages.specs.Runs.{kept_stage}
 use Rattle.run_stages.specs.Stops.{stop_stage, say_forward}
 
 -- a run that ended early is said
@@ -41,23 +38,6 @@ ended_part shapes s value e = record {
   told = λ files rest status text comes.
       let P : Stop → Type 0 = λ x. LeadsTo files (stop_stage shapes x rest) status text in subst P (sym e) comes;
 }
-
--- ---- programs that are run backward
-
-pub kept_part : {T : Type 0} (p : Program) (value : T) → all_keep_variables p ≡ true → IsPart {T = T} (λ _. tt {0}) (kept_stage p) (Ok value)
-unfolding kept_stage
-kept_part p value e = record {
-  clear = λ h. h;
-  told = λ files rest status text comes.
-      let P : Bool → Type 0 = λ b. LeadsTo files (if b then rest tt else not_built_plan) status text in subst P (sym e) comes;
-}
-
-pub unkept_part : {T : Type 0} (p : Program) (early : Early) → all_keep_variables p ≡ false → IsPart {T = T} (λ _. tt {0}) (λ rest. not_built_plan) (Err early)
-    → IsPart {T = T} (λ _. tt {0}) (kept_stage p) (Err early)
-unfolding kept_stage
-unkept_part {T = T} p early e h =
-    let P : Bool → Type 0 = λ b. IsPart {T = T} (λ _. tt {0}) (λ rest. if b then rest tt else not_built_plan) (Err early) in
-    subst P (sym e) h
 
 -- ---- what a forward sweep promises of a run
 

@@ -6,7 +6,6 @@ use Rattle.fl_types.specs.Declarations.{is_ring_argument}
 use Rattle.store_core.specs.Places.{shapes_of}
 use Rattle.meaning.specs.Stops.{by_conflict, at_end}
 use Rattle.forward_run.specs.Swept.{stop_in}
-use Rattle.sound_programs.specs.Uses.{all_keep_variables}
 use Rattle.program_stage.specs.Accepted.{IsProgramOf}
 use Rattle.data_stages.specs.Files.{args_in, seed_in}
 use Rattle.formad_words.specs.declared.words.Request.{Request}
@@ -35,6 +34,5 @@ pub record IsRun (files : Files) (request : Request) (text : List ℕ) (before a
   pub inputs : Inputs
   pub given : AreInputs files request inputs
   pub ends : stop_in by_conflict (run_meaning request inputs) ≡ at_end
-  pub kept : all_keep_variables inputs.typed ≡ true
   pub wrote : answer_text request inputs ≡ text
   pub ticked : after ≡ before + ticks_of_run request inputs

@@ -1,5 +1,5 @@
 -- The order of refusals of `run`, and its answer.
-use Rattle.std.specs.Prelude.{ℕ, if◌then◌else◌, List}
+use Rattle.std.specs.Prelude.{ℕ, List}
 use Rattle.ending.specs.Plan.{Plan}
 use Rattle.fl_ast.specs.declared.stmt.Program.{Program}
 use Rattle.store_core.specs.declared.layout.Shape.{Shape}
@@ -9,9 +9,7 @@ use Rattle.meaning.specs.Logs.{Traced}
 use Rattle.meaning.specs.Sites.{Cells}
 use Rattle.meaning.specs.Stops.{by_conflict}
 use Rattle.forward_run.specs.Swept.{stop_in, ticks_in}
-use Rattle.sound_programs.specs.Uses.{all_keep_variables}
 use Rattle.formad_words.specs.declared.words.Request.{Request}
-use Rattle.program_stage.specs.Lines.{not_built_plan}
 use Rattle.program_stage.specs.Programs.{subject_stage}
 use Rattle.data_stages.specs.Files.{args_stage, seed_stage}
 use Rattle.data_stages.specs.Later.{certificate_stage}
@@ -46,15 +44,11 @@ ticks_of_run request inputs = ticks_in by_conflict (run_meaning request inputs)
 abbrev pub answer_text : Request → Inputs → List ℕ
 answer_text request inputs = run_text inputs.typed inputs.layout inputs.args inputs.weights request.of request.wrt
 
--- a program in which a parallel loop lists the variable of a loop around it as private isn't run backward yet
-unfoldable pub kept_stage : Program → (Unit {0} → Plan) → Plan
-kept_stage program rest = if all_keep_variables program then rest tt else not_built_plan
-
 -- the first stop of the run, then the answer
 unfoldable pub answer_stage : Request → Inputs → (List ℕ → Plan) → Plan
 answer_stage request inputs rest =
     stop_stage inputs.layout (stop_in by_conflict (run_meaning request inputs)) (λ _.
-    kept_stage inputs.typed (λ _. rest (answer_text request inputs)))
+    rest (answer_text request inputs))
 
 unfoldable pub run_stage : Request → (List ℕ → Plan) → Plan
 run_stage request rest = inputs_stage request (λ inputs. answer_stage request inputs rest)

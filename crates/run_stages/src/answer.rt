@@ -1,4 +1,4 @@
-ghost use Rattle.std.specs.Prelude.{◌≡◌, ◌+◌, ◌≤◌, ◌^◌, None, true, Ok, length, IfOk, OnOk};
+ghost use Rattle.std.specs.Prelude.{◌≡◌, ◌+◌, ◌≤◌, ◌^◌, None, Ok, length, IfOk, OnOk};
 ghost use Rattle.activity.specs.Active.{AreActive, first_misfit};
 ghost use Rattle.ending.specs.Stage.{IsPart};
 ghost use Rattle.fl_types.specs.Rows.{judged};
@@ -8,13 +8,12 @@ ghost use Rattle.store_core.specs.Places.{shapes_of};
 ghost use Rattle.meaning.specs.Stops.{by_conflict, at_end};
 ghost use Rattle.adjoint_choices.specs.Choosing.{choices_of};
 ghost use Rattle.adjoint_sets.specs.Names.{is_active, is_needed};
-ghost use Rattle.sound_programs.specs.Uses.{all_keep_variables};
 ghost use Rattle.forward_run.specs.Swept.{stop_in};
 ghost use Rattle.one_thread.specs.Back.{HasRun};
 ghost use Rattle.answers.specs.Runs.{shown_at, text_of};
 ghost use Rattle.answers.specs.Sweeps.{quieted as quieted_lem};
 ghost use Rattle.run_stages.specs.Given.{IsGiven};
-ghost use Rattle.run_stages.specs.Runs.{kept_stage, answer_stage, answer_text, run_meaning, ticks_of_run};
+ghost use Rattle.run_stages.specs.Runs.{answer_stage, answer_text, run_meaning, ticks_of_run};
 
 use crate::inputs::{Inputs, Prepared};
 use crate::quiet::quieted;
@@ -28,25 +27,11 @@ use fl_types::{Choices, NameSet, Typed};
 use footprint::Footprint;
 use formad_words::Request;
 use forward_run::Forwarded;
-use kept_variables::keeps_all_variables;
 use needed_names::needed;
 use one_thread::{Ran, run_back};
-use program_stage::not_built;
 use ring_core::Steps;
 use std::alloc::Global;
 use std::sync::ledger::Ledger;
-
-/// A program in which a parallel loop lists the variable of a loop around it as private isn't run backward yet.
-fn check_kept(alloc: Global, typed: &Typed) -> Result<(), Early>
-    ensures part { IsPart (λ _. tt {0}) (kept_stage typed.now) result }
-    ensures kept { IfOk result (λ _. all_keep_variables typed.now ≡ true) }
-{
-    if keeps_all_variables(typed) {
-        Ok(())
-    } else {
-        Err(not_built(alloc))
-    }
-}
 
 /// The answer of a run from what it leaves.
 fn answer_of(
@@ -111,7 +96,6 @@ fn answer_back(
     requires judged { judged prepared.now.inputs.typed ≡ Ok prepared.now.inputs.typed }
     requires fit { first_misfit prepared.now.inputs.typed request.now.of request.now.wrt ≡ None }
     requires given { IsGiven request.now prepared.now.inputs }
-    requires kept { all_keep_variables prepared.now.inputs.typed ≡ true }
     requires needed { (λ x. has_name x needed.now.names)
         ≡ is_needed prepared.now.inputs.typed (is_active prepared.now.inputs.typed request.now.of request.now.wrt) }
     requires ran { HasRun (run_meaning request.now prepared.now.inputs) forwarded.cells.items forwarded.tape }
@@ -150,7 +134,6 @@ pub(crate) fn answer<L: Ledger>(
     requires given { IsGiven request.now prepared.now.inputs }
     ensures part { IsPart (λ text. text.items) (answer_stage request.now prepared.now.inputs) result }
     ensures ends { IfOk result (λ _. stop_in by_conflict (run_meaning request.now prepared.now.inputs) ≡ at_end) }
-    ensures kept { IfOk result (λ _. all_keep_variables prepared.now.inputs.typed ≡ true) }
     ensures text { IfOk result (λ text. text.items ≡ answer_text request.now prepared.now.inputs) }
     ensures ticks { OnOk result (steps.new ≡ steps.old + ticks_of_run request.now prepared.now.inputs) }
 {
@@ -159,7 +142,6 @@ pub(crate) fn answer<L: Ledger>(
         Err(Memory) => return Err(Early::Memory),
     };
     let forwarded = run_forward(alloc, request, &prepared.inputs, &needed, steps)?;
-    check_kept(alloc, &prepared.inputs.typed)?;
     match answer_back(alloc, request, prepared, &needed, forwarded) {
         Ok(text) => Ok(text),
         Err(Memory) => Err(Early::Memory),

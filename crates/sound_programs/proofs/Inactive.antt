@@ -100,7 +100,7 @@ alone p of wrt x a h = record {
     fair = each_both (λ y. is_ring_argument p y ≡ true) of (x ∷ []) (λ y i. all_fit p of wrt a.fit y (in_left of wrt y i)) one
 
 pub inactive_zero : InactiveIsZero
-inactive_zero p of wrt values words seed j a kept small dead asked inactive = same-adjoint ∙ by_out (run_all (stmt_trees p.body) w.site sj).out refl
+inactive_zero p of wrt values words seed j a small dead asked inactive = same-adjoint ∙ by_out (run_all (stmt_trees p.body) w.site sj).out refl
   where
     keys : List Key
     keys = (entry_site (program_tree p) (shapes_of p values) no_pushes).keys
@@ -124,7 +124,7 @@ inactive_zero p of wrt values words seed j a kept small dead asked inactive = sa
     sj = cells_along (unit j) s
 
     sound : SoundAll w u (stmt_trees p.body)
-    sound = programs_sound p of (x ∷ []) values (λ n z. Atomic) b kept (λ l i y on h. never false h refl)
+    sound = programs_sound p of (x ∷ []) values (λ n z. Atomic) b (λ l i y on h. never false h refl)
 
     fits : Fits w.site s
     fits = (directions_fit w.site s []).1 (entries_fit (program_tree p) (shapes_of p values) (is_needed p (is_active p of (x ∷ []))) words [] small)
@@ -137,7 +137,7 @@ inactive_zero p of wrt values words seed j a kept small dead asked inactive = sa
         (known_argument p x (all_fit p of wrt a.fit x (in_right of wrt x (has_in x wrt asked))))
 
     fit : Fit w u sj
-    fit = unit_fit w u s j fits room moves
+    fit = unit_fit w u s j fits room moves (λ y. refl)
 
     -- what is asked of doesn't move
     still : (y : List ℕ) → has_name y of ≡ true → u.moved y ≡ false

@@ -1,5 +1,5 @@
 -- Membership in lists of names and of edges, and tests of names.
-use Rattle.std.proofs.Common.{◌≡◌, inl, inr, ℕ, Bool, true, false, not, ◌||◌, if◌then◌else◌, bytes_eq, List, [], ◌∷◌, ◌++◌, filter, map, refl, ap, sym, ◌∙◌}
+use Rattle.std.proofs.Common.{◌≡◌, inl, inr, ℕ, Bool, true, false, not, ◌||◌, if◌then◌else◌, bytes_eq, List, [], ◌∷◌, ◌++◌, filter, map, Option, Some, None, refl, ap, sym, ◌∙◌}
 use Rattle.std.proofs.lemmas.Slice.Eq.{bytes_eq-Decides}
 use Rattle.fl_types.specs.Sharing.{has_name}
 use Rattle.reachability.specs.Reached.{IsAmong}
@@ -16,6 +16,11 @@ no_not false h = never true refl h
 pub not_yes : (b : Bool) → not b ≡ true → b ≡ false
 not_yes false h = refl
 not_yes true h = never false (sym (sym h)) refl
+
+-- no value
+pub nothing : {X : Type 0} (o : Option X) → ((x : X) → o ≡ Some x → ⊥) → o ≡ None
+nothing None h = refl
+nothing (Some x) h = absurd (h x refl)
 
 -- what follows from either
 pub or_to : {P : Type 0} (a b : Bool) → (a ≡ true → P) → (b ≡ true → P) → (a || b) ≡ true → P

@@ -21,7 +21,7 @@ use Rattle.fl_types.specs.Rows.{first_fault, refused_by, judged, is_varying}
 use Rattle.store_core.specs.declared.values.Entry.{Entry}
 use Rattle.store_core.specs.Keys.{keys_of, with_scalars}
 use Rattle.store_core.specs.Places.{shapes_of}
-use Rattle.meaning.specs.Sites.{Key}
+use Rattle.meaning.specs.Sites.{Key, word_of}
 use Rattle.reachability.specs.Reached.{Edge, IsAmong, root, onward}
 use Rattle.reachability.specs.Named.{are_both_declared, IsReachedName}
 use Rattle.activity.specs.Active.{edge_to, flows_to, all_flow_to, flows, flows_in, flows_in_arms, program_flows, turned, first_misfit}
@@ -33,7 +33,7 @@ use Rattle.typing.proofs.Heads.{head_is}
 use Rattle.typing.proofs.Faultless.{Clean, apart, at_first}
 use Rattle.typing.proofs.TypedLaws.{typed}
 use Rattle.transposition.specs.Worlds.{name_at}
-use Rattle.sound_programs.specs.Uses.{is_varied, is_useful, is_own, all_keep_variables, AreFitting}
+use Rattle.sound_programs.specs.Uses.{is_varied, is_useful, is_own, AreFitting, outer_use}
 use Rattle.sound_programs.specs.Accepted.{IsAccepted, PlacesFit, LayoutsFit, PlacesSuffice, ProgramsAreSound, AskedNamesFit}
 use Rattle.sound_programs.proofs.Lists.{each_both, no_not, at_test, never, fails, or_to, not_yes, same_name, has_in, in_left, in_right, in_map, in_filter, filter_meets}
 use Rattle.sound_programs.proofs.Layouts.{is_laid, own_standing, low_name, high_unlaid}
@@ -41,6 +41,9 @@ use Rattle.sound_programs.proofs.PlacedNames.{IsCleanBody, known_turned, scoped_
 use Rattle.sound_programs.proofs.Setups.{Setup, Facts, Scene, PartAll}
 use Rattle.sound_programs.proofs.Trees.{Spot, GivenAll, variable_all}
 use Rattle.sound_programs.proofs.Stating.{statements_sound}
+use Rattle.std.specs.Prelude.{slice_index}
+use Rattle.meaning.specs.Expressions.{content}
+use Rattle.meaning.specs.declared.value.Value.{Value}
 
 -- ---- what is reached
 
@@ -270,12 +273,7 @@ places_fit p values r t = record {
         (λ s. never (is_laid x (shapes_of p values)) (unscoped_laid p c values x (known_turned p.decls x ∙ k.1) s) k.0))
 
 pub places_suffice : PlacesSuffice
-places_suffice p of wrt values vs s r t h q v e n =
-    elim (cases_lt q (length (keys_of (shapes_of p values)))) [
-      | inl k ↦ h q v k e
-      | inr k ↦ absurd (unneeded (name_at keys q)
-          (and_parts (is_needed p (is_active p of wrt) (name_at keys q)) (not (is_own p (name_at keys q))) n) ((places_fit p values r t).high q k))
-    ]
+places_suffice p of wrt values vs s r t h = record { read = read; held = λ q m e. (let f : None ≡ Some m = e in cc) }
   where
     keys : List Key
     keys = keys_of (with_scalars (shapes_of p values) p.decls)
@@ -284,6 +282,14 @@ places_suffice p of wrt values vs s r t h q v e n =
     unneeded x d (inl n) = never (is_declared p.decls x) (needed_known p (is_active p of wrt) x d.0)
         (ap (is_declared p.decls) n ∙ nameless p.decls r.decls)
     unneeded x d (inr o) = never (is_own p x) o (not_yes (is_own p x) d.1)
+
+    read : (q : ℕ) (v : Value) → content s q ≡ Some v → (outer_use p of wrt).needed (name_at keys q) ≡ true → slice_index vs q ≡ word_of (Some v)
+    read q v e n =
+        elim (cases_lt q (length (keys_of (shapes_of p values)))) [
+          | inl k ↦ h q v k e
+          | inr k ↦ absurd (unneeded (name_at keys q)
+              (and_parts (is_needed p (is_active p of wrt) (name_at keys q)) (not (is_own p (name_at keys q))) n) ((places_fit p values r t).high q k))
+        ]
 
 -- ---- set up
 
@@ -347,7 +353,7 @@ whole_part p of wrt values choices = record {
 
 outer_scene : (p : Program) (of wrt : List (List ℕ)) (values : List Entry) (choices : ℕ → List ℕ → Choice)
     → Scene (setup_of p of wrt values choices) [] None (λ x. is_needed p (is_active p of wrt) x && not (is_own p x))
-    (λ x. is_active p of wrt x && not (is_own p x))
+    (λ x. is_active p of wrt x && not (is_own p x)) (λ x. None)
 outer_scene p of wrt values choices = record {
   plain = λ x h s. and_from (is_needed p (is_active p of wrt) x) (not (is_own p x)) h (ap not s);
   scope = λ x h. never false h refl;
@@ -359,6 +365,7 @@ outer_scene p of wrt values choices = record {
   owned_live = λ x h v o. never false o refl;
   live = λ x h. (and_parts (is_active p of wrt x) (not (is_own p x)) h).0;
   varying = λ x h. never false h refl;
+  around = λ x m e. (let f : None ≡ Some m = e in cc);
 }
 
 abbrev outer_spot : (p : Program) (of wrt : List (List ℕ)) (values : List Entry) (choices : ℕ → List ℕ → Choice)
@@ -367,6 +374,7 @@ outer_spot p of wrt values choices = record {
   around = at_unit p.line;
   needed = λ x. is_needed p (is_active p of wrt) x && not (is_own p x);
   live = λ x. is_active p of wrt x && not (is_own p x);
+  held = λ x. None;
   outer = [];
   accessed = λ x. false;
   pluses = λ x. false;
@@ -378,14 +386,13 @@ few : (n : ℕ) → n < 2 ^ 32 → n < 2 ^ 64
 few n h = omega arith
 
 outer_given : (p : Program) (of wrt : List (List ℕ)) (values : List Entry) (choices : ℕ → List ℕ → Choice) → IsAccepted p of wrt
-    → all_keep_variables p ≡ true → AreFitting p (is_active p of wrt) choices
+    → AreFitting p (is_active p of wrt) choices
     → GivenAll (setup_of p of wrt values choices) (outer_spot p of wrt values choices) (stmt_trees p.body)
-outer_given p of wrt values choices a kept f = record {
+outer_given p of wrt values choices a f = record {
   clean = c.clean;
   kinds = c.typed.kinds;
   read = a.readable.body;
   few = few _ a.readable.few_nodes;
-  keeps = kept;
   fitting = f;
   outside = λ h. record {
     alone = refl;
@@ -393,6 +400,7 @@ outer_given p of wrt values choices a kept f = record {
     outer = λ x k. k;
     own = λ x k s. never (is_own p x) s (not_yes (is_own p x) (and_parts (is_needed p (is_active p of wrt) x) (not (is_own p x)) k).1);
     dead = λ x k. not_yes (is_own p x) (and_parts (is_active p of wrt x) (not (is_own p x)) k).1;
+    holds = λ x k. never false k refl;
   };
 }
   where
@@ -400,9 +408,9 @@ outer_given p of wrt values choices a kept f = record {
     c = clean_body p of wrt a
 
 pub programs_sound : ProgramsAreSound
-programs_sound p of wrt values choices a kept f =
+programs_sound p of wrt values choices a f =
     statements_sound (setup_of p of wrt values choices) (facts_of p of wrt values choices a) (stmt_trees p.body)
-    (outer_spot p of wrt values choices) (outer_given p of wrt values choices a kept f) (whole_part p of wrt values choices)
+    (outer_spot p of wrt values choices) (outer_given p of wrt values choices a f) (whole_part p of wrt values choices)
 
 -- ---- the names that are asked of and by
 

@@ -1,6 +1,6 @@
 -- Parallel loops of an accepted program.
 use Rattle.std.proofs.Common.{◌≡◌, ◌⊎◌, inl, inr, ℕ, Bool, true, false, not, ◌&&◌, ◌||◌, if◌then◌else◌, bytes_eq, List, [], ◌∷◌, filter, map, Some, None, refl, ap, sym, subst, ◌∙◌}
-use Rattle.std.specs.List.{list_any, list_all}
+use Rattle.std.specs.List.{list_any}
 use Rattle.std.proofs.lemmas.Bool.{and_parts, and_from, or_parts, or_from, or_left, or_right}
 use Rattle.fl_ast.specs.declared.decl.Decl.{Decl}
 use Rattle.fl_ast.specs.declared.directive.Directive.{Directive}
@@ -8,7 +8,7 @@ use Rattle.fl_ast.specs.Readable.{has_parallel_in}
 use Rattle.fl_ast.specs.Tree.{assignment, branch, loop, Statements, no_statements, statement}
 use Rattle.fl_types.specs.declared.sharing.Sharing.TheVariants.{Shared, Private, First, Plus, LoopVar}
 use Rattle.fl_types.specs.Nests.{is_nest, inner_head, inner_body, iteration_body}
-use Rattle.fl_types.specs.Sharing.{has_name, varies_in, sharing_in, is_accessed, is_private, makes_accesses, loops_of_all}
+use Rattle.fl_types.specs.Sharing.{has_name, varies_in, sharing_in, is_accessed, is_private, makes_accesses}
 use Rattle.fl_types.specs.Declarations.{is_declared}
 use Rattle.fl_types.specs.Mentions as m
 use Rattle.fl_types.specs.Mentions.{Surroundings, Region}
@@ -18,10 +18,10 @@ use Rattle.adjoint_sets.proofs.Reaching.{named}
 use Rattle.typing.proofs.Faultless.{Clean, apart}
 use Rattle.transposition.specs.Worlds.{World, is_reduction, name_at, in_iteration}
 use Rattle.transposition.specs.Back.{variables_of, loop_variables}
-use Rattle.transposition.specs.Sound.{writes_in, Own, AllOwn, AllSummed, Common, SoundRounds}
-use Rattle.sound_programs.specs.Uses.{keeps_variables, IsCollectable}
-use Rattle.sound_programs.proofs.Lists.{at_test, by_cases, never, fails, or_to, itself, has_in, in_filter, filter_meets, not_yes}
-use Rattle.sound_programs.proofs.PlacedNames.{all_parts, known_turned, every_name}
+use Rattle.transposition.specs.Sound.{writes_in, IsHeld, Own, AllOwn, AllSummed, Common, SoundRounds}
+use Rattle.sound_programs.specs.Uses.{IsCollectable}
+use Rattle.sound_programs.proofs.Lists.{at_test, by_cases, never, fails, or_to, itself, has_in, in_filter, filter_meets, not_yes, nothing}
+use Rattle.sound_programs.proofs.PlacedNames.{known_turned}
 use Rattle.sound_programs.proofs.Setups.{Setup, decls_in, body_in, keys_in, is_scoped, Facts, Scene, use_at}
 use Rattle.sound_programs.proofs.Trees.{Spot, world_of, use_of, Outside, LoopClean, loop_clean, unset_all, variable_all}
 use Rattle.sound_programs.proofs.Turning.{inner_variables, own_of}
@@ -115,8 +115,6 @@ pub record Loop (t : Setup) (h : Spot t) (line number : ℕ) (d : Directive) (va
   -- its names are loops' own, and its variables vary
   pub scoped : (x : List ℕ) → (bytes_eq x var || (has_name x d.privates || varies_in x body)) ≡ true → is_scoped t x ≡ true
   pub varying : (x : List ℕ) → (bytes_eq x var || varies_in x body) ≡ true → is_varying t.program x ≡ true
-  pub keeps : keeps_variables (record { line = line; number = number; outer = h.around.vars; directive = d; var = var; body = body }) ≡ true
-  pub keep : list_all keeps_variables (loops_of_all (var ∷ h.around.vars) body) ≡ true
   pub fitting : (x : List ℕ) → t.active x ≡ true → is_reduction (t.choices number x) ≡ true
       → IsCollectable t.program (record { line = line; number = number; outer = h.around.vars; directive = d; var = var; body = body }) x
   pub flat : has_parallel_in body ≡ false
@@ -148,20 +146,20 @@ loop_variable t h line number d var body l x k = all_variables t h line number d
 -- ---- the variables aren't set in an iteration
 
 unset_inner : (t : Setup) (s : Surroundings) (x : List ℕ) (body : Statements) → Clean t.program (m.in_statements s body)
-    → list_all keeps_variables (loops_of_all s.vars body) ≡ true → has_parallel_in body ≡ false → is_varying t.program x ≡ true
+    → has_parallel_in body ≡ false → is_varying t.program x ≡ true
     → (has_name x (variables_of (inner_head body)) || has_name x s.vars) ≡ true → writes_in x (inner_body body) ≡ false
-unset_inner t s x no_statements c g f v h = refl
-unset_inner t s x (statement (assignment line atomic p e) ss) c g f v h = refl
-unset_inner t s x (statement (branch line arms other) ss) c g f v h = refl
-unset_inner t s x (statement (loop line number None var first last step body) ss) c g f v h =
+unset_inner t s x no_statements c f v h = refl
+unset_inner t s x (statement (assignment line atomic p e) ss) c f v h = refl
+unset_inner t s x (statement (branch line arms other) ss) c f v h = refl
+unset_inner t s x (statement (loop line number None var first last step body) ss) c f v h =
     let k = loop_clean t.program s line number None var first last step body
     (apart t.program (m.in_statement s (loop line number None var first last step body)) (m.in_statements s ss) c).0 in
     unset_all t.program (m.at_body s var None) x body k.inside
-    (all_parts keeps_variables (loops_of_all (var ∷ s.vars) body) (loops_of_all s.vars ss) g).0
+    (or_parts (has_parallel_in body) (has_parallel_in ss) f).0
     (or_to (bytes_eq x var || false) (has_name x s.vars)
     (λ e. or_left (bytes_eq x var) (has_name x s.vars) (or_to (bytes_eq x var) false (λ n. n) (λ n. never false n refl) e))
     (λ e. or_right (bytes_eq x var) (has_name x s.vars) e) h) v
-unset_inner t s x (statement (loop line number (Some d) var first last step body) ss) c g f v h = never true refl f
+unset_inner t s x (statement (loop line number (Some d) var first last step body) ss) c f v h = never true refl f
 
 pub unset_in_iteration : (t : Setup) (h : Spot t) (line number : ℕ) (d : Directive) (var : List ℕ) (body : Statements)
     → Loop t h line number d var body → (x : List ℕ) → is_varying t.program x ≡ true
@@ -169,9 +167,9 @@ pub unset_in_iteration : (t : Setup) (h : Spot t) (line number : ℕ) (d : Direc
 unset_in_iteration t h line number d var body l x v k =
     at_test (λ b. (has_name x (var ∷ variables_of (if b then inner_head body else None)) || has_name x h.around.vars) ≡ true
     → writes_in x (if b then inner_body body else body) ≡ false) (is_nest d body)
-    (λ e g. unset_inner t (m.at_body h.around var (m.made_parallel (Some d) var body)) x body l.clean.inside l.keep l.flat v
+    (λ e g. unset_inner t (m.at_body h.around var (m.made_parallel (Some d) var body)) x body l.clean.inside l.flat v
     (nested (bytes_eq x var) (has_name x (variables_of (inner_head body))) (has_name x h.around.vars) g))
-    (λ e g. unset_all t.program (m.at_body h.around var (m.made_parallel (Some d) var body)) x body l.clean.inside l.keep
+    (λ e g. unset_all t.program (m.at_body h.around var (m.made_parallel (Some d) var body)) x body l.clean.inside l.flat
     (alone (bytes_eq x var) (has_name x h.around.vars) g) v) k
   where
     nested : (a b c : Bool) → ((a || b) || c) ≡ true → (b || (a || c)) ≡ true
@@ -248,6 +246,7 @@ pub rounds_scene : (t : Setup) (h : Spot t) (line number : ℕ) (d : Directive) 
     → ((x : List ℕ) → has_name x vars ≡ true → (has_name x (loop_variables d var body) || has_name x h.around.vars) ≡ true)
     → ((x : List ℕ) → (has_name x (loop_variables d var body) || has_name x h.around.vars) ≡ true → has_name x vars ≡ true)
     → Scene t vars (Some (record { directive = d; var = var; body = body })) (rounds_needed t h d var body) (rounds_live t h d var body)
+    (λ x. None)
 rounds_scene t h line number d var body l vars to from = record {
   plain = λ x k s. by_outer t h d var body x (h.scene.plain x k s);
   scope = λ x k. or_to (has_name x (loop_variables d var body)) (has_name x h.around.vars) (by_variables t h d var body x)
@@ -267,6 +266,7 @@ rounds_scene t h line number d var body l vars to from = record {
   live = λ x k. or_to (h.live x) (has_name x (own_privates t d var body) && t.active x) (h.scene.live x)
       (λ e. (and_parts (has_name x (own_privates t d var body)) (t.active x) e).1) k;
   varying = λ x k. or_to (has_name x (loop_variables d var body)) (has_name x h.around.vars) (varying x) (h.scene.varying x) (to x k);
+  around = λ x m e. (let f : None ≡ Some m = e in cc);
 }
   where
     varying : (x : List ℕ) → has_name x (loop_variables d var body) ≡ true → is_varying t.program x ≡ true
@@ -283,29 +283,29 @@ all_summed w [] f = tt
 all_summed w (x ∷ xs) f = (f x, all_summed w xs f)
 
 pub rounds_sound : (t : Setup) (h : Spot t) (line number : ℕ) (d : Directive) (var : List ℕ) (body : Statements) → Loop t h line number d var body
-    → SoundRounds (world_of t h) (use_of t h) (use_at t (rounds_needed t h d var body) (rounds_live t h d var body)) number d var body
+    → SoundRounds (world_of t h) (use_of t h) (use_at t (rounds_needed t h d var body) (rounds_live t h d var body) (λ x. None)) number d var body
 rounds_sound t h line number d var body l = record {
   variables = all_own (world_of t h) (loop_variables d var body)
       (λ x i. let k = all_variables t h line number d var body l x i in own_of t h x (l.facts.own x k.known (scoped_variable x k.varied)));
   whole = λ x k. l.facts.whole x (l.varying x (loop_variable t h line number d var body l x k).varied);
   unvaried = λ x k. unset_in_iteration t h line number d var body l x (l.varying x (loop_variable t h line number d var body l x k).varied)
       (or_left (has_name x (loop_variables d var body)) (has_name x h.around.vars) k);
+  unheld = λ x k. nothing (h.held x) (λ m e. never (has_name x h.around.vars) (h.scene.around x m e) (loop_variable t h line number d var body l x k).new);
   privates = all_own (world_of t h) (own_privates t d var body)
       (λ x i. let k = private_facts t d var body x (named x (own_privates t d var body) i) in own_of t h x
       (l.facts.own x k.known (scoped_private x k.listed)));
-  pushed = λ x p k. needed_by t h d var body x k (λ e. absurd (not_outer x p e)) (λ e n f. n) (λ e. absurd (not_both x p e));
+  pushed = λ x p k s. needed_by t h d var body x k (λ e. never (writes_in x (iteration_body d body)) s (kept x (private_around x p e))) (λ e n f. n) (λ e. absurd (not_both x p e));
   needed = λ x k p v. needed_by t h d var body x k (λ e. e) (λ e n f. never (has_name x (own_privates t d var body)) e p)
       (λ e. never (has_name x (loop_variables d var body)) e v);
-  outside = λ x k. (
-    by_outer t h d var body x k,
-    fails (has_name x (own_privates t d var body)) (λ p. not_outer x p k),
-    fails
-        (has_name x (loop_variables d var body)) (λ v. new_variable x v k),
-  );
+  outside = λ x k. by_outer t h d var body x k;
   live = λ x p. by_none (h.live x) (has_name x (own_privates t d var body)) (t.active x) p;
   moved = λ x. refl;
   dead = λ q k. fails (h.live (name_at (keys_in t) q)) (λ e. dead_name (name_at (keys_in t) q) e (l.facts.high q k));
-  stays = λ q k e. stays (name_at (keys_in t) q) e (l.facts.high q k);
+  stays = λ q k i e. stays (name_at (keys_in t) q) e (l.facts.high q k);
+  unset = λ x e. kept x (h.scene.around x e.0 e.1);
+  low = λ q k. nothing (h.held (name_at (keys_in t) q))
+      (λ m e. never (is_scoped t (name_at (keys_in t) q)) (around_scoped (name_at (keys_in t) q) (h.scene.around (name_at (keys_in t) q) m e)) (l.facts.low q k));
+  fresh = λ x. refl;
   inside = λ q k. touched (name_at (keys_in t) q) (l.facts.low q k);
   silent = l.outside.silent;
   summed = all_summed (in_iteration (world_of t h) number d var body) (map (λ (g : Decl). g.name) (decls_in t)) (λ x k.
@@ -324,23 +324,18 @@ rounds_sound t h line number d var body l = record {
     scoped_private x k = l.scoped x
         (or_right (bytes_eq x var) (has_name x d.privates || varies_in x body) (or_left (has_name x d.privates) (varies_in x body) k))
 
-    -- what is private in the loop isn't needed outside
-    not_outer : (x : List ℕ) → has_name x (own_privates t d var body) ≡ true → h.needed x ≡ true → ⊥
-    not_outer x p e =
-        let k = private_facts t d var body x p in
-        never (has_name x h.around.vars) (l.outside.own x e (scoped_private x k.listed))
-        (not_yes (has_name x h.around.vars) (every_name (λ y. not (has_name y h.around.vars)) x d.privates l.keeps k.listed))
+    -- what is private in the loop and needed outside is the variable of a loop around
+    private_around : (x : List ℕ) → has_name x (own_privates t d var body) ≡ true → h.needed x ≡ true → has_name x h.around.vars ≡ true
+    private_around x p e = l.outside.own x e (scoped_private x (private_facts t d var body x p).listed)
+
+    around_scoped : (x : List ℕ) → has_name x h.around.vars ≡ true → is_scoped t x ≡ true
+    around_scoped x k = variable_all x (body_in t) (h.scene.varying x k)
 
     not_both : (x : List ℕ) → has_name x (own_privates t d var body) ≡ true → has_name x (loop_variables d var body) ≡ true → ⊥
     not_both x p v =
         let k = private_facts t d var body x p in
         never (bytes_eq x var || varies_in x body) (loop_variable t h line number d var body l x v).varied
         (or_from (bytes_eq x var) (varies_in x body) k.other k.fixed)
-
-    new_variable : (x : List ℕ) → has_name x (loop_variables d var body) ≡ true → h.needed x ≡ true → ⊥
-    new_variable x v e =
-        let k = loop_variable t h line number d var body l x v in
-        never (has_name x h.around.vars) (h.scene.within x e (l.varying x k.varied)) k.new
 
     by_none : (a p b : Bool) → p ≡ false → (a || (p && b)) ≡ a
     by_none a true b e = never true refl e
@@ -356,11 +351,11 @@ rounds_sound t h line number d var body l = record {
     kept x k = unset_in_iteration t h line number d var body l x (h.scene.varying x k)
         (or_right (has_name x (loop_variables d var body)) (has_name x h.around.vars) k)
 
-    stays : (x : List ℕ) → h.needed x ≡ true → (x ≡ []) ⊎ (is_scoped t x ≡ true) → writes_in x (iteration_body d body) ≡ false
+    stays : (x : List ℕ) → h.needed x ≡ true → (x ≡ []) ⊎ (is_scoped t x ≡ true) → IsHeld (use_of t h) x
     stays x e (inl n) =
-        by_cases (is_varying t.program x) (λ v. kept x (h.scene.within x e v))
+        by_cases (is_varying t.program x) (λ v. l.outside.holds x (h.scene.within x e v))
         (λ v. never (is_declared (decls_in t) x) (l.facts.needed_known x (h.scene.needed x e v)) (ap (is_declared (decls_in t)) n ∙ l.facts.nameless))
-    stays x e (inr s) = kept x (l.outside.own x e s)
+    stays x e (inr s) = l.outside.holds x (l.outside.own x e s)
 
     touched : (x : List ℕ) → is_scoped t x ≡ false → makes_accesses h.outer var d body x ≡ true
     touched x s =

@@ -73,8 +73,9 @@ world_at t outer accessed pluses choice = record {
   choices = t.choices;
 }
 
-abbrev pub use_at : Setup → (n l : List ℕ → Bool) → Use
-use_at t n l = record { needed = n; live = l; moved = t.moved }
+-- held tells the words of the variables of sequential loops around, outside of parallel loops
+abbrev pub use_at : Setup → (n l : List ℕ → Bool) → (held : List ℕ → Option ℕ) → Use
+use_at t n l held = record { needed = n; live = l; moved = t.moved; held = held }
 
 -- what its sets of names and its layout are
 pub record Facts (t : Setup) : Type 0 where
@@ -229,8 +230,8 @@ mutual
 
 -- ---- what is in scope
 
--- n tells the needed names in scope, l the live ones
-pub record Scene (t : Setup) (vars : List (List ℕ)) (parallel : Option Region) (n l : List ℕ → Bool) : Type 0 where
+-- n tells the needed names in scope, l the live ones, and held the words of variables
+pub record Scene (t : Setup) (vars : List (List ℕ)) (parallel : Option Region) (n l : List ℕ → Bool) (held : List ℕ → Option ℕ) : Type 0 where
   pub plain : (x : List ℕ) → t.needed x ≡ true → is_scoped t x ≡ false → n x ≡ true
   pub scope : (x : List ℕ) → has_name x vars ≡ true → n x ≡ true
   pub owned : (x : List ℕ) → t.needed x ≡ true → is_varying t.program x ≡ false → is_own_in parallel x ≡ true → n x ≡ true
@@ -240,6 +241,7 @@ pub record Scene (t : Setup) (vars : List (List ℕ)) (parallel : Option Region)
   pub owned_live : (x : List ℕ) → t.active x ≡ true → is_varying t.program x ≡ false → is_own_in parallel x ≡ true → l x ≡ true
   pub live : (x : List ℕ) → l x ≡ true → t.active x ≡ true
   pub varying : (x : List ℕ) → has_name x vars ≡ true → is_varying t.program x ≡ true
+  pub around : (x : List ℕ) (m : ℕ) → held x ≡ Some m → has_name x vars ≡ true
 
 -- a name that may be used is no loop's own, a variable in scope, or private in the parallel loop around
 in_scope : {P : Type 0} (t : Setup) (vars : List (List ℕ)) (parallel : Option Region) (x : List ℕ) → IsUsable t.program vars parallel x
@@ -259,13 +261,13 @@ in_scope t vars parallel x h plain scope owned =
     by_private true true o e k f g = f refl
     by_private true false o e k f g = g (no_not o k)
 
-pub seen : (t : Setup) (vars : List (List ℕ)) (parallel : Option Region) (n l : List ℕ → Bool) → Scene t vars parallel n l → (x : List ℕ)
+pub seen : (t : Setup) (vars : List (List ℕ)) (parallel : Option Region) (n l : List ℕ → Bool) (held : List ℕ → Option ℕ) → Scene t vars parallel n l held → (x : List ℕ)
     → t.needed x ≡ true → IsUsable t.program vars parallel x → n x ≡ true
-seen t vars parallel n l c x h k = in_scope t vars parallel x k (λ s. c.plain x h s) (λ s. c.scope x s) (λ v o. c.owned x h v o)
+seen t vars parallel n l held c x h k = in_scope t vars parallel x k (λ s. c.plain x h s) (λ s. c.scope x s) (λ v o. c.owned x h v o)
 
-pub shown : (t : Setup) → Facts t → (vars : List (List ℕ)) (parallel : Option Region) (n l : List ℕ → Bool) → Scene t vars parallel n l
+pub shown : (t : Setup) → Facts t → (vars : List (List ℕ)) (parallel : Option Region) (n l : List ℕ → Bool) (held : List ℕ → Option ℕ) → Scene t vars parallel n l held
     → (x : List ℕ) → t.active x ≡ true → IsUsable t.program vars parallel x → l x ≡ true
-shown t f vars parallel n l c x h k =
+shown t f vars parallel n l held c x h k =
     in_scope t vars parallel x k (λ s. c.plain_live x h s)
     (λ s. never (is_ring_name (decls_in t) x) (f.ring x h) (f.whole x (c.varying x s))) (λ v o. c.owned_live x h v o)
 

@@ -1,6 +1,5 @@
 -- Every statement of an accepted program meets what the law of transposition asks of it.
 use Rattle.std.proofs.Common.{◌≡◌, inl, inr, ℕ, ◌+◌, ◌<◌, ◌≤◌, ◌^◌, Bool, true, false, not, ◌&&◌, ◌||◌, if◌then◌else◌, cond, bytes_eq, List, ◌∷◌, ◌++◌, Option, Some, None, refl, arith}
-use Rattle.std.specs.List.{list_all}
 use Rattle.std.proofs.lemmas.Bool.{and_parts, or_parts, or_left, or_right}
 use Rattle.fl_ast.specs.declared.directive.Directive.{Directive}
 use Rattle.fl_ast.specs.Measures.{nodes, condition_nodes, step_nodes, nodes_of_all, statement_nodes, arm_nodes}
@@ -17,12 +16,11 @@ use Rattle.typing.proofs.Faultless.{apart}
 use Rattle.transposition.specs.Worlds.{is_reduction, in_iteration}
 use Rattle.transposition.specs.Back.{variables_of, loop_variables}
 use Rattle.transposition.specs.Sound.{arm_count, Sound, SoundAll, SoundArms, SoundInner}
-use Rattle.sound_programs.specs.Uses.{keeps_variables, IsCollectable}
+use Rattle.sound_programs.specs.Uses.{IsCollectable}
 use Rattle.sound_programs.proofs.Lists.{in_left, at_test, never, fails, or_to, not_yes, itself}
-use Rattle.sound_programs.proofs.PlacedNames.{all_parts}
 use Rattle.sound_programs.proofs.Mentioned.{assignment_clean}
 use Rattle.sound_programs.proofs.Setups.{Setup, decls_in, Facts, PartOne, PartAll, PartArms, first_part, rest_part, arms_part, other_part, arm_part, later_part, body_part, use_at}
-use Rattle.sound_programs.proofs.Trees.{Spot, world_of, use_of, loop_clean, Given, GivenOne, GivenAll, GivenArms, left_given, right_given, few_arms, flat_all, unset_all, variable_all}
+use Rattle.sound_programs.proofs.Trees.{Spot, world_of, use_of, loop_clean, Given, GivenOne, GivenAll, GivenArms, left_given, right_given, few_arms, flat_all, variable_all}
 use Rattle.sound_programs.proofs.Assigning.{assignment_sound}
 use Rattle.sound_programs.proofs.Turning.{HeadKinds, head_kinds, further_literals, turned, turned_outside, variable_sound}
 use Rattle.sound_programs.proofs.Rounding.{Loop, rounds_needed, rounds_live, rounds_scene, rounds_sound}
@@ -88,6 +86,7 @@ iterating t h line number d var body l a = record {
   around = m.at_body h.around var (m.made_parallel (Some d) var body);
   needed = rounds_needed t h d var body;
   live = rounds_live t h d var body;
+  held = λ x. None;
   outer = var ∷ h.outer;
   accessed = makes_accesses h.outer var d body;
   pluses = λ x. is_plus (sharing_in var d body x);
@@ -101,6 +100,7 @@ iterating_inner t h line number d var body l other a = record {
   around = m.at_body (m.at_body h.around var (m.made_parallel (Some d) var body)) other None;
   needed = rounds_needed t h d var body;
   live = rounds_live t h d var body;
+  held = λ x. None;
   outer = var ∷ h.outer;
   accessed = makes_accesses h.outer var d body;
   pluses = λ x. is_plus (sharing_in var d body x);
@@ -164,7 +164,6 @@ the_loop : (t : Setup) → Facts t
     → PartOne t h.choice (loop line number (Some d) var first last step body) → Loop t h line number d var body
 the_loop t f h line number d var first last step body g part =
     let l : ParallelLoop = record { line = line; number = number; outer = h.around.vars; directive = d; var = var; body = body } in
-    let k = and_parts (keeps_variables l) (list_all keeps_variables (loops_of_all (var ∷ h.around.vars) body)) g.keeps in
     record {
       facts = f;
       outside = g.outside refl;
@@ -176,8 +175,6 @@ the_loop t f h line number d var first last step body g part =
           (or_to (has_name x d.privates) (varies_in x body) (λ o. or_left (has_name x d.privates) (scopes_in x body) o)
           (λ o. or_right (has_name x d.privates) (scopes_in x body) (variable_all x body o)) e)) i);
       varying = part.varied;
-      keeps = k.0;
-      keep = k.1;
       fitting = g.fitting l (inl refl);
       flat = not_yes (has_parallel_in body) (loop_readable (Some d) var first last step body g.read).alone;
     }
@@ -188,7 +185,7 @@ mutual
   pub statement_sound : (t : Setup) → Facts t → (a : Statement) (h : Spot t) → GivenOne t h a → PartOne t h.choice a
       → Sound (world_of t h) (use_of t h) a
   statement_sound t f (assignment line atomic p e) h g part =
-      assignment_sound t f h.around.vars h.around.parallel h.needed h.live h.scene h.outer h.accessed h.pluses h.choice line atomic p e
+      assignment_sound t f h.around.vars h.around.parallel h.needed h.live h.held h.scene h.outer h.accessed h.pluses h.choice line atomic p e
       (assignment_clean t.program h.around line atomic p e g.clean) g.kinds part
   statement_sound t f (branch line arms other) h g part =
       let names = declared_names (decls_in t) in
@@ -200,7 +197,6 @@ mutual
         kinds = g.kinds;
         read = (and_parts (has_arm arms) (are_readable_arms arms && are_readable_statements other) g.read).1;
         few = (let i : arm_nodes arms + nodes_of_all other + 1 < 2 ^ 64 = g.few in omega arith);
-        keeps = g.keeps;
         fitting = g.fitting;
         outside = g.outside;
       } in
@@ -222,17 +218,14 @@ mutual
       let s = part.scoped var (or_left (bytes_eq var var) (scopes_in var body) (itself var)) in
       let k = loop_kinds t None var first last step body g.kinds in (
         variable_sound t f h var first last step c.variable v s k.head,
-        unset_all t.program (m.at_body h.around var None) var body c.inside g.keeps
-            (or_left (bytes_eq var var) (has_name var h.around.vars) (itself var)) v,
-        statements_sound t f body (turned t h var v)
+        λ n. statements_sound t f body (turned t h var n v)
             (record {
               clean = c.inside;
               kinds = k.inside;
               read = (loop_readable None var first last step body g.read).inside;
               few = fewer first last step body g.few;
-              keeps = g.keeps;
               fitting = g.fitting;
-              outside = λ o. turned_outside t h var v (g.outside o);
+              outside = λ o. turned_outside t h var n v (g.outside o);
             })
             (body_part t h.choice h.choice line number None var first last step body part (λ x i. part.summed x i)),
       )
@@ -245,7 +238,7 @@ mutual
       body_part t h.choice (t.choices number) line number (Some d) var first last step body part
       (λ x i a. fails (is_reduction (t.choices number x)) (λ o. never (assigns_in x body) i (l.fitting x a o).kept)) in
       let w = in_iteration (world_of t h) number d var body in
-      let u = use_at t (rounds_needed t h d var body) (rounds_live t h d var body) in (
+      let u = use_at t (rounds_needed t h d var body) (rounds_live t h d var body) (λ x. None) in (
         u,
         rounds_sound t h line number d var body l,
         k.head.literals,
@@ -258,7 +251,6 @@ mutual
               kinds = k.inside;
               read = r;
               few = few;
-              keeps = l.keep;
               fitting =
                   λ q i. g.fitting q (inr i);
               outside = λ o. never (has_parallel_in body) o l.flat;
@@ -298,7 +290,6 @@ mutual
             g.kinds).1;
         read = (and_parts (is_readable_condition test) (are_readable_statements body && are_readable_arms arms) g.read).1;
         few = (let i : condition_nodes test + nodes_of_all body + arm_nodes arms + 1 < 2 ^ 64 = g.few in omega arith);
-        keeps = g.keeps;
         fitting = g.fitting;
         outside = g.outside;
       } in (
@@ -323,7 +314,7 @@ mutual
       → ((q : ParallelLoop) → IsAmong (loops_of_all (var ∷ h.around.vars) body) q → (x : List ℕ) → t.active x ≡ true
       → is_reduction (t.choices q.number x) ≡ true → IsCollectable t.program q x)
       → PartAll t (t.choices number) body
-      → SoundInner (in_iteration (world_of t h) number d var body) (use_at t (rounds_needed t h d var body) (rounds_live t h d var body)) body
+      → SoundInner (in_iteration (world_of t h) number d var body) (use_at t (rounds_needed t h d var body) (rounds_live t h d var body) (λ x. None)) body
   inner_sound t f no_statements h line number d var l e kinds read few fit part = tt
   inner_sound t f (statement (assignment at atomic p v) ss) h line number d var l e kinds read few fit part = tt
   inner_sound t f (statement (branch at arms other) ss) h line number d var l e kinds read few fit part = tt
@@ -344,7 +335,6 @@ mutual
         read = (loop_readable None other first last step body
             (and_parts (is_readable_statement (loop at count None other first last step body)) (are_readable_statements ss) read).0).inside;
         few = fewer first last step body (few_first first last step body ss few);
-        keeps = (all_parts keeps_variables (loops_of_all (other ∷ (var ∷ h.around.vars)) body) (loops_of_all (var ∷ h.around.vars) ss) l.keep).0;
         fitting = λ q i. fit q (in_left (loops_of_all (other ∷ (var ∷ h.around.vars)) body) (loops_of_all (var ∷ h.around.vars) ss) q i);
         outside = λ o. never (has_parallel_in body) o (or_parts (has_parallel_in body) (has_parallel_in ss) l.flat).0;
       })

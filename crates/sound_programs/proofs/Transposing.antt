@@ -1,5 +1,5 @@
 -- The law of transposition for accepted programs.
-use Rattle.std.proofs.Common.{◌≡◌, ℕ, Bool, true, false, not, cond, List, [], Some, None, ap}
+use Rattle.std.proofs.Common.{◌≡◌, ℕ, Bool, true, false, not, cond, List, [], Some, None, ap, refl}
 use Rattle.std.proofs.lemmas.Bool.{and_from}
 use Rattle.fl_ast.specs.Tree.{Statement, assignment, branch, loop, Statements, no_statements, statement, Arms, no_arms, arm, stmt_trees, program_tree}
 use Rattle.store_core.specs.Places.{shapes_of}
@@ -20,11 +20,11 @@ use Rattle.sound_programs.proofs.Collecting.{choices_fit}
 use Rattle.sound_programs.proofs.Programs.{programs_sound, names_fit, low_unowned}
 
 pub accepted_transposed : AcceptedIsTransposed
-accepted_transposed p of wrt values choices limits words vs seed s2 j d a kept fitting apart small run stop like wide long bounded dead
+accepted_transposed p of wrt values choices limits words vs seed s2 j d a fitting apart small run stop like wide long bounded dead
     there content asked active =
     program_transposed (program_tree p) (shapes_of p values) (is_needed p (is_active p of wrt)) (is_active p of wrt) choices
     (outer_use p of wrt) limits words vs seed s2 j d
-    (programs_sound p of wrt values choices a kept fitting) apart small run stop like wide long bounded
+    (programs_sound p of wrt values choices a fitting) (λ x. refl) apart small run stop like wide long bounded
     (λ q l m. dead q (n.seeded (name_at w.site.keys q) l m)) there content
     (live (name_at w.site.keys j) active (low_unowned p of wrt values a j there)) (n.moved (name_at w.site.keys j) asked)
   where
@@ -66,8 +66,8 @@ mutual
       by_test false f g = g
 
 pub made_transposed : MadeIsTransposed
-made_transposed p of wrt values limits words vs seed s2 j d a kept =
+made_transposed p of wrt values limits words vs seed s2 j d a =
     let k = choices_fit p of wrt a in
     let w = world_of_program p of wrt values (made_choices p of wrt) in
-    accepted_transposed p of wrt values (made_choices p of wrt) limits words vs seed s2 j d a kept k.fitting
+    accepted_transposed p of wrt values (made_choices p of wrt) limits words vs seed s2 j d a k.fitting
     (apart_all (stmt_trees p.body) w (cells_along (unit j) (entry_cells (program_tree p) (shapes_of p values) words)) k.one_step)

@@ -1,6 +1,5 @@
 -- What is given of a part of a program's body, and of its parts.
-use Rattle.std.proofs.Common.{◌≡◌, ℕ, ◌+◌, ◌<◌, ◌≤◌, ◌^◌, Bool, true, false, not, ◌&&◌, ◌||◌, bytes_eq, List, ◌∷◌, ◌++◌, Option, Some, None, refl, ap, ◌∙◌, arith}
-use Rattle.std.specs.List.{list_all}
+use Rattle.std.proofs.Common.{◌≡◌, ℕ, ◌+◌, ◌<◌, ◌≤◌, ◌^◌, Bool, true, false, ◌&&◌, ◌||◌, bytes_eq, List, ◌++◌, Option, Some, None, refl, ap, ◌∙◌, arith}
 use Rattle.std.proofs.lemmas.Bool.{and_parts, or_parts, or_from, or_left, or_right}
 use Rattle.fl_ast.specs.declared.directive.Directive.{Directive}
 use Rattle.fl_ast.specs.declared.stmt.Program.{Program}
@@ -20,9 +19,8 @@ use Rattle.transposition.specs.Worlds.{World, is_reduction}
 use Rattle.transposition.specs.Law.{Use}
 use Rattle.transposition.specs.Calms.{IsFlat, AreFlat, AreFlatArms}
 use Rattle.transposition.specs.Sound.{writes, writes_in, writes_in_arms, arm_count}
-use Rattle.sound_programs.specs.Uses.{keeps_variables, IsCollectable}
-use Rattle.sound_programs.proofs.Lists.{in_left, in_right, never, fails, or_to, same_name, not_yes}
-use Rattle.sound_programs.proofs.PlacedNames.{all_parts, every_name}
+use Rattle.sound_programs.specs.Uses.{IsCollectable}
+use Rattle.sound_programs.proofs.Lists.{in_left, in_right, never, fails, or_to, same_name}
 use Rattle.sound_programs.proofs.Mentioned.{IsVariable, variable_clean, assignment_clean}
 use Rattle.sound_programs.proofs.Setups.{Setup, decls_in, is_scoped, Scene, world_at, use_at}
 
@@ -51,53 +49,39 @@ loop_clean p s line number directive var first last step body h =
 
 -- ---- variables aren't set
 
-keeps_listed : (line number : ℕ) (outer : List (List ℕ)) (d : Directive) (var : List ℕ) (body : Statements) (x : List ℕ)
-    → keeps_variables (record { line = line; number = number; outer = outer; directive = d; var = var; body = body }) ≡ true
-    → has_name x outer ≡ true → has_name x d.privates ≡ false
-keeps_listed line number outer d var body x h o =
-    fails (has_name x d.privates) (λ k. never (has_name x outer) o
-    (not_yes (has_name x outer) (every_name (λ y. not (has_name y outer)) x d.privates h k)))
-
 mutual
-  unset_one : (p : Program) (s : Surroundings) (x : List ℕ) (a : Statement) → Clean p (m.in_statement s a)
-      → list_all keeps_variables (loops_of s.vars a) ≡ true → has_name x s.vars ≡ true → is_varying p x ≡ true → writes x a ≡ false
-  unset_one p s x (assignment line atomic t e) h g o v =
+  unset_one : (p : Program) (s : Surroundings) (x : List ℕ) (a : Statement) → Clean p (m.in_statement s a) → has_parallel a ≡ false
+      → has_name x s.vars ≡ true → is_varying p x ≡ true → writes x a ≡ false
+  unset_one p s x (assignment line atomic t e) h f o v =
       fails (bytes_eq x t.name) (λ k. never (is_varying p x) v
       (ap (is_varying p) (same_name x t.name k) ∙ (assignment_clean p s line atomic t e h).target.fixed))
-  unset_one p s x (branch line arms other) h g o v =
+  unset_one p s x (branch line arms other) h f o v =
       let q = apart p (m.in_arms s line arms) (m.in_statements s other) h in
-      let r = all_parts keeps_variables (loops_of_arms s.vars arms) (loops_of_all s.vars other) g in
+      let r = or_parts (has_parallel_in_arms arms) (has_parallel_in other) f in
       or_from (writes_in_arms x arms) (writes_in x other) (unset_arms p s line x arms q.0 r.0 o v) (unset_all p s x other q.1 r.1 o v)
-  unset_one p s x (loop line number None var first last step body) h g o v =
+  unset_one p s x (loop line number None var first last step body) h f o v =
       let c = loop_clean p s line number None var first last step body h in
       or_from (bytes_eq x var) (writes_in x body)
       (fails (bytes_eq x var) (λ k. never (has_name x s.vars) o (ap (λ y. has_name y s.vars) (same_name x var k) ∙ c.variable.new)))
-      (unset_all p (m.at_body s var None) x body c.inside g (or_right (bytes_eq x var) (has_name x s.vars) o) v)
-  unset_one p s x (loop line number (Some d) var first last step body) h g o v =
-      let c = loop_clean p s line number (Some d) var first last step body h in
-      let l : ParallelLoop = record { line = line; number = number; outer = s.vars; directive = d; var = var; body = body } in
-      let r = and_parts (keeps_variables l) (list_all keeps_variables (loops_of_all (var ∷ s.vars) body)) g in
-      or_from (bytes_eq x var) (has_name x d.privates || writes_in x body)
-      (fails (bytes_eq x var) (λ k. never (has_name x s.vars) o (ap (λ y. has_name y s.vars) (same_name x var k) ∙ c.variable.new)))
-      (or_from (has_name x d.privates) (writes_in x body) (keeps_listed line number s.vars d var body x r.0 o)
-      (unset_all p (m.at_body s var (m.made_parallel (Some d) var body)) x body c.inside r.1 (or_right (bytes_eq x var) (has_name x s.vars) o) v))
+      (unset_all p (m.at_body s var None) x body c.inside f (or_right (bytes_eq x var) (has_name x s.vars) o) v)
+  unset_one p s x (loop line number (Some d) var first last step body) h f o v = never true refl f
 
-  -- the variables of the loops around aren't set
-  pub unset_all : (p : Program) (s : Surroundings) (x : List ℕ) (ss : Statements) → Clean p (m.in_statements s ss)
-      → list_all keeps_variables (loops_of_all s.vars ss) ≡ true → has_name x s.vars ≡ true → is_varying p x ≡ true → writes_in x ss ≡ false
-  unset_all p s x no_statements h g o v = refl
-  unset_all p s x (statement a ss) h g o v =
+  -- the variables of the loops around aren't set, without parallel loops not even unset
+  pub unset_all : (p : Program) (s : Surroundings) (x : List ℕ) (ss : Statements) → Clean p (m.in_statements s ss) → has_parallel_in ss ≡ false
+      → has_name x s.vars ≡ true → is_varying p x ≡ true → writes_in x ss ≡ false
+  unset_all p s x no_statements h f o v = refl
+  unset_all p s x (statement a ss) h f o v =
       let q = apart p (m.in_statement s a) (m.in_statements s ss) h in
-      let r = all_parts keeps_variables (loops_of s.vars a) (loops_of_all s.vars ss) g in
+      let r = or_parts (has_parallel a) (has_parallel_in ss) f in
       or_from (writes x a) (writes_in x ss) (unset_one p s x a q.0 r.0 o v) (unset_all p s x ss q.1 r.1 o v)
 
   unset_arms : (p : Program) (s : Surroundings) (line : ℕ) (x : List ℕ) (arms : Arms) → Clean p (m.in_arms s line arms)
-      → list_all keeps_variables (loops_of_arms s.vars arms) ≡ true → has_name x s.vars ≡ true → is_varying p x ≡ true → writes_in_arms x arms ≡ false
-  unset_arms p s line x no_arms h g o v = refl
-  unset_arms p s line x (arm test body arms) h g o v =
+      → has_parallel_in_arms arms ≡ false → has_name x s.vars ≡ true → is_varying p x ≡ true → writes_in_arms x arms ≡ false
+  unset_arms p s line x no_arms h f o v = refl
+  unset_arms p s line x (arm test body arms) h f o v =
       let q = apart p (m.in_statements s body) (m.in_arms s line arms)
       (apart p (m.in_condition (m.at_line s line) test) (m.in_statements s body ++ m.in_arms s line arms) h).1 in
-      let r = all_parts keeps_variables (loops_of_all s.vars body) (loops_of_arms s.vars arms) g in
+      let r = or_parts (has_parallel_in body) (has_parallel_in_arms arms) f in
       or_from (writes_in x body) (writes_in_arms x arms) (unset_all p s x body q.0 r.0 o v) (unset_arms p s line x arms q.1 r.1 o v)
 
 -- ---- variables are loops' own
@@ -149,17 +133,18 @@ pub record Spot (t : Setup) : Type 0 where
   pub around : Surroundings
   pub needed : List ℕ → Bool
   pub live : List ℕ → Bool
+  pub held : List ℕ → Option ℕ
   pub outer : List (List ℕ)
   pub accessed : List ℕ → Bool
   pub pluses : List ℕ → Bool
   pub choice : List ℕ → Choice
-  pub scene : Scene t around.vars around.parallel needed live
+  pub scene : Scene t around.vars around.parallel needed live held
 
 abbrev pub world_of : (t : Setup) → Spot t → World
 world_of t h = world_at t h.outer h.accessed h.pluses h.choice
 
 abbrev pub use_of : (t : Setup) → Spot t → Use
-use_of t h = use_at t h.needed h.live
+use_of t h = use_at t h.needed h.live h.held
 
 -- outside of parallel loops
 pub record Outside (t : Setup) (h : Spot t) : Type 0 where
@@ -168,6 +153,7 @@ pub record Outside (t : Setup) (h : Spot t) : Type 0 where
   pub outer : (x : List ℕ) → has_name x h.outer ≡ true → has_name x h.around.vars ≡ true
   pub own : (x : List ℕ) → h.needed x ≡ true → is_scoped t x ≡ true → has_name x h.around.vars ≡ true
   pub dead : (x : List ℕ) → h.live x ≡ true → is_scoped t x ≡ false
+  pub holds : (x : List ℕ) → has_name x h.around.vars ≡ true → (m : ℕ) × (h.held x ≡ Some m)
 
 -- what typing and the limits of texts give of a part with these names and numbers, this many nodes, and these parallel loops
 pub record Given (t : Setup) (h : Spot t) (ms : List Mention) (kinded readable : Bool) (nodes : ℕ) (loops : List ParallelLoop)
@@ -176,7 +162,6 @@ pub record Given (t : Setup) (h : Spot t) (ms : List Mention) (kinded readable :
   pub kinds : kinded ≡ true
   pub read : readable ≡ true
   pub few : nodes < 2 ^ 64
-  pub keeps : list_all keeps_variables loops ≡ true
   pub fitting : (l : ParallelLoop) → IsAmong loops l → (x : List ℕ) → t.active x ≡ true → is_reduction (t.choices l.number x) ≡ true
       → IsCollectable t.program l x
   pub outside : parallel ≡ true → Outside t h
@@ -200,7 +185,6 @@ left_given t h ms ns ka kb ra rb a b ls ks pa pb g = record {
   kinds = (and_parts ka kb g.kinds).0;
   read = (and_parts ra rb g.read).0;
   few = (let k : a + b < 2 ^ 64 = g.few in omega arith);
-  keeps = (all_parts keeps_variables ls ks g.keeps).0;
   fitting = λ l i. g.fitting l (in_left ls ks l i);
   outside = λ k. g.outside (or_left pa pb k);
 }
@@ -212,7 +196,6 @@ right_given t h ms ns ka kb ra rb a b ls ks pa pb g = record {
   kinds = (and_parts ka kb g.kinds).1;
   read = (and_parts ra rb g.read).1;
   few = (let k : a + b < 2 ^ 64 = g.few in omega arith);
-  keeps = (all_parts keeps_variables ls ks g.keeps).1;
   fitting = λ l i. g.fitting l (in_right ls ks l i);
   outside = λ k. g.outside (or_right pa pb k);
 }

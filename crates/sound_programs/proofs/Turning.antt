@@ -1,5 +1,5 @@
 -- Heads of loops, and sequential loops of an accepted program.
-use Rattle.std.proofs.Common.{◌≡◌, inl, inr, ℕ, Bool, true, ◌&&◌, ◌||◌, if◌then◌else◌, bytes_eq, List, ◌∷◌, Option, Some, None, ap, subst, ◌∙◌}
+use Rattle.std.proofs.Common.{◌≡◌, inl, inr, ℕ, Bool, true, ◌&&◌, ◌||◌, if◌then◌else◌, bytes_eq, List, ◌∷◌, Option, Some, None, ap, subst, ◌∙◌, cond, refl}
 use Rattle.std.proofs.lemmas.Bool.{and_parts, or_left, or_right}
 use Rattle.fl_ast.specs.declared.directive.Directive.{Directive}
 use Rattle.fl_ast.specs.Tree.{Expression, assignment, branch, loop, Statements, no_statements, statement}
@@ -15,7 +15,7 @@ use Rattle.transposition.proofs.WellKinded.{typed_by_kinds}
 use Rattle.fl_ast.specs.declared.stmt.Program.{Program}
 use Rattle.reachability.specs.Reached.{IsAmong}
 use Rattle.typing.proofs.Faultless.{Clean, apart}
-use Rattle.sound_programs.proofs.Lists.{at_test, never, fails, or_to, same_name, itself}
+use Rattle.sound_programs.proofs.Lists.{at_test, never, fails, or_to, same_name, itself, nothing}
 use Rattle.sound_programs.specs.Accepted.{HasOnePlace}
 use Rattle.sound_programs.proofs.Mentioned.{IsVariable}
 use Rattle.sound_programs.proofs.Setups.{Setup, decls_in, keys_in, count_in, is_scoped, Facts, Scene}
@@ -88,9 +88,10 @@ inner_variables p s (statement (loop line number directive var first last step b
 
 -- ---- turns
 
-pub turned_scene : (t : Setup) (vars : List (List ℕ)) (parallel : Option Region) (n l : List ℕ → Bool) (var : List ℕ)
-    → is_varying t.program var ≡ true → Scene t vars parallel n l → Scene t (var ∷ vars) parallel (λ x. n x || bytes_eq x var) l
-turned_scene t vars parallel n l var v c = record {
+pub turned_scene : (t : Setup) (vars : List (List ℕ)) (parallel : Option Region) (n l : List ℕ → Bool) (held : List ℕ → Option ℕ) (var : List ℕ) (m : ℕ)
+    → is_varying t.program var ≡ true → Scene t vars parallel n l held
+    → Scene t (var ∷ vars) parallel (λ x. n x || bytes_eq x var) l (λ x. cond (bytes_eq x var) (Some m) (held x))
+turned_scene t vars parallel n l held var m v c = record {
   plain = λ x d s. or_left (n x) (bytes_eq x var) (c.plain x d s);
   scope = λ x h. or_to (bytes_eq x var) (has_name x vars) (λ k. or_right (n x) (bytes_eq x var) k)
       (λ k. or_left (n x) (bytes_eq x var) (c.scope x k)) h;
@@ -103,22 +104,25 @@ turned_scene t vars parallel n l var v c = record {
   owned_live = c.owned_live;
   live = c.live;
   varying = λ x h. or_to (bytes_eq x var) (has_name x vars) (λ k. ap (is_varying t.program) (same_name x var k) ∙ v) (c.varying x) h;
+  around = λ x i h. at_test (λ b. cond b (Some m) (held x) ≡ Some i → (b || has_name x vars) ≡ true) (bytes_eq x var) (λ e g. refl) (λ e g. c.around x i g) h;
 }
 
-abbrev pub turned : (t : Setup) (h : Spot t) (var : List ℕ) → is_varying t.program var ≡ true → Spot t
-turned t h var v = record {
+-- with this word of the variable
+abbrev pub turned : (t : Setup) (h : Spot t) (var : List ℕ) → ℕ → is_varying t.program var ≡ true → Spot t
+turned t h var n v = record {
   around = m.at_body h.around var None;
   needed = λ x. h.needed x || bytes_eq x var;
   live = h.live;
+  held = λ x. cond (bytes_eq x var) (Some n) (h.held x);
   outer = var ∷ h.outer;
   accessed = h.accessed;
   pluses = h.pluses;
   choice = h.choice;
-  scene = turned_scene t h.around.vars h.around.parallel h.needed h.live var v h.scene;
+  scene = turned_scene t h.around.vars h.around.parallel h.needed h.live h.held var n v h.scene;
 }
 
-pub turned_outside : (t : Setup) (h : Spot t) (var : List ℕ) (v : is_varying t.program var ≡ true) → Outside t h → Outside t (turned t h var v)
-turned_outside t h var v o = record {
+pub turned_outside : (t : Setup) (h : Spot t) (var : List ℕ) (n : ℕ) (v : is_varying t.program var ≡ true) → Outside t h → Outside t (turned t h var n v)
+turned_outside t h var n v o = record {
   alone = o.alone;
   silent = o.silent;
   outer = λ x k. or_to (bytes_eq x var) (has_name x h.outer) (λ e. or_left (bytes_eq x var) (has_name x h.around.vars) e)
@@ -126,6 +130,8 @@ turned_outside t h var v o = record {
   own = λ x k s. or_to (h.needed x) (bytes_eq x var) (λ e. or_right (bytes_eq x var) (has_name x h.around.vars) (o.own x e s))
       (λ e. or_left (bytes_eq x var) (has_name x h.around.vars) e) k;
   dead = o.dead;
+  holds = λ x k. at_test (λ b. (b || has_name x h.around.vars) ≡ true → (i : ℕ) × (cond b (Some n) (h.held x) ≡ Some i)) (bytes_eq x var)
+      (λ e g. (n, refl)) (λ e g. o.holds x g) k;
 }
 
 pub own_of : (t : Setup) (h : Spot t) (x : List ℕ) → HasOnePlace (keys_in t) (count_in t) x → Own (world_of t h) x
@@ -144,6 +150,7 @@ variable_sound t f h var first last step c v s k =
       own = o.own;
       whole = f.whole var v;
       unneeded = fails (h.needed var) (λ d. never (has_name var h.around.vars) (h.scene.within var d v) c.new);
+      unheld = nothing (h.held var) (λ m d. never (has_name var h.around.vars) (h.scene.around var m d) c.new);
       dead = fails (h.live var) (λ d. never (is_ring_name (decls_in t) var) (f.ring var (h.scene.live var d)) (f.whole var v));
       literals = k.literals;
       wholes = k.wholes;

@@ -29,7 +29,7 @@ use Rattle.transposition.specs.Calms.{AreFlat, PairwiseAll}
 use Rattle.transposition.specs.Sound.{SoundAll}
 use Rattle.transposition.specs.Programs.{program_world}
 use Rattle.transposition.specs.Answer.{reverse_run}
-use Rattle.sound_programs.specs.Uses.{is_own, outer_use, all_keep_variables, AreFitting}
+use Rattle.sound_programs.specs.Uses.{is_own, outer_use, AreFitting}
 use Rattle.loop_choices.specs.Choosing.{choice_in}
 
 -- a program that some text reads as, and that typing doesn't refuse, with names that may be asked of and by
@@ -60,7 +60,7 @@ pub record HasPlace (keys : List Key) (n : ℕ) (x : List ℕ) : Type 0 where
 abbrev pub ProgramsAreSound : Type 0
 ProgramsAreSound =
     (p : Program) (of wrt : List (List ℕ)) (values : List Entry) (choices : ℕ → List ℕ → Choice) → IsAccepted p of wrt
-    → all_keep_variables p ≡ true → AreFitting p (is_active p of wrt) choices
+    → AreFitting p (is_active p of wrt) choices
     → SoundAll (world_of_program p of wrt values choices) (outer_use p of wrt) (stmt_trees p.body)
 
 -- a loop's own name has one place, and that behind the layout; a scalar that is none has a place of the layout, where no loop's own name has one
@@ -121,7 +121,7 @@ AcceptedIsTransposed =
     (s2 : Cells) (j : ℕ) (d : Dual)
     → let w = world_of_program p of wrt values choices in
     let s = entry_cells (program_tree p) (shapes_of p values) words in
-    IsAccepted p of wrt → all_keep_variables p ≡ true → AreFitting p (is_active p of wrt) choices
+    IsAccepted p of wrt → AreFitting p (is_active p of wrt) choices
     → PairwiseAll SharedApart (stmt_trees p.body) w (cells_along (unit j) s) → All (λ x. x < 2 ^ 64) words
     → (run_of (program_tree p) (shapes_of p values) (is_needed p (is_active p of wrt)) s).out ≡ Ok s2
     → first_stop by_conflict limits (events (run_of (program_tree p) (shapes_of p values) (is_needed p (is_active p of wrt)) s).log) ≡ at_end
@@ -136,7 +136,7 @@ MadeIsTransposed =
     (p : Program) (of wrt : List (List ℕ)) (values : List Entry) (limits : Limits) (words vs seed : List ℕ) (s2 : Cells) (j : ℕ) (d : Dual)
     → let w = world_of_program p of wrt values (made_choices p of wrt) in
     let s = entry_cells (program_tree p) (shapes_of p values) words in
-    IsAccepted p of wrt → all_keep_variables p ≡ true → All (λ x. x < 2 ^ 64) words
+    IsAccepted p of wrt → All (λ x. x < 2 ^ 64) words
     → (run_of (program_tree p) (shapes_of p values) (is_needed p (is_active p of wrt)) s).out ≡ Ok s2
     → first_stop by_conflict limits (events (run_of (program_tree p) (shapes_of p values) (is_needed p (is_active p of wrt)) s).log) ≡ at_end
     → Like (outer_use p of wrt) w.site.keys vs s2 → length vs ≡ length w.site.keys → length seed ≡ length w.site.keys → AreWords seed
@@ -149,7 +149,7 @@ abbrev pub InactiveIsZero : Type 0
 InactiveIsZero =
     (p : Program) (of wrt : List (List ℕ)) (values : List Entry) (words seed : List ℕ) (j : ℕ)
     → let keys = (entry_site (program_tree p) (shapes_of p values) no_pushes).keys in
-    IsAccepted p of wrt → all_keep_variables p ≡ true → All (λ x. x < 2 ^ 64) words
+    IsAccepted p of wrt → All (λ x. x < 2 ^ 64) words
     → ((q : ℕ) → has_name (name_at keys q) of ≡ false → slice_index seed q ≡ 0)
     → has_name (name_at keys j) wrt ≡ true → is_active p of wrt (name_at keys j) ≡ false
     → adjoint_of (program_tree p) (shapes_of p values) words seed j ≡ 0

@@ -1,10 +1,9 @@
 -- The names of a program as the law of transposition speaks of them, and what it asks of clauses and choices.
-use Rattle.std.specs.Prelude.{◌≡◌, ℕ, Bool, true, false, not, ◌&&◌, List, [], map}
-use Rattle.std.specs.List.{list_all}
+use Rattle.std.specs.Prelude.{◌≡◌, ℕ, Bool, true, false, not, ◌&&◌, List, [], map, None}
 use Rattle.fl_ast.specs.declared.stmt.Program.{Program}
 use Rattle.fl_ast.specs.Tree.{stmt_trees}
 use Rattle.fl_types.specs.declared.choice.Choice.{Choice}
-use Rattle.fl_types.specs.Sharing.{has_name, assigns_in, ParallelLoop, loops_of_all}
+use Rattle.fl_types.specs.Sharing.{assigns_in, ParallelLoop, loops_of_all}
 use Rattle.store_core.specs.Scopes.{scopes_in}
 use Rattle.reachability.specs.Reached.{IsAmong}
 use Rattle.activity.specs.Active.{program_flows, turned}
@@ -32,15 +31,8 @@ outer_use p of wrt = record {
   needed = λ x. is_needed p (is_active p of wrt) x && not (is_own p x);
   live = λ x. is_active p of wrt x && not (is_own p x);
   moved = is_varied p wrt;
+  held = λ x. None;
 }
-
--- no variable of a loop around the parallel loop is listed as private in it: its iterations would unset it, and turns begun before
--- would go on without it
-abbrev pub keeps_variables : ParallelLoop → Bool
-keeps_variables l = list_all (λ x. not (has_name x l.outer)) l.directive.privates
-
-abbrev pub all_keep_variables : Program → Bool
-all_keep_variables p = list_all keeps_variables (loops_of_all [] (stmt_trees p.body))
 
 -- an adjoint that is collected is that of a scalar with a place, which the loop doesn't assign
 pub record IsCollectable (p : Program) (l : ParallelLoop) (x : List ℕ) : Type 0 where

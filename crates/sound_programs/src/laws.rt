@@ -1,8 +1,7 @@
 ghost use Rattle.sound_programs.specs.Accepted.{AcceptedIsTransposed, AskedNamesFit, InactiveIsZero, LayoutsFit, MadeChoicesFit, MadeIsTransposed, ParallelLoopsFit, PlacesSuffice, ProgramsAreSound};
 
-/// What the law of transposition asks of the names of a program, statement by statement, holds of every accepted program in which no
-/// parallel loop lists the variable of a loop around it as private: from typing, from the active and the needed names, and from choices
-/// that fit. It does nothing.
+/// What the law of transposition asks of the names of a program, statement by statement, holds of every accepted program: from typing,
+/// from the active and the needed names, and from choices that fit. It does nothing.
 pub fn programs_are_sound()
     ensures { ProgramsAreSound }
 {}

@@ -59,12 +59,13 @@ still_unit (c ∷ s) (suc j) zero d = still_pointed c
 still_unit (c ∷ s) (suc j) (suc p) d = ap tangent_of (content_later (with_tangent 0 c) (cells_along (unit j) s) p) ∙ still_unit s j p (λ e. d (ap suc e))
 
 -- in the direction of a place whose name may have a tangent
-pub unit_fit : (w : World) (u : Use) (s : Cells) (j : ℕ) → Fits w.site s → w.shared ≤ length w.site.keys → u.moved (name_at w.site.keys j) ≡ true → Fit w u (cells_along (unit j) s)
-unit_fit w u s j h room moved = record {
+pub unit_fit : (w : World) (u : Use) (s : Cells) (j : ℕ) → Fits w.site s → w.shared ≤ length w.site.keys → u.moved (name_at w.site.keys j) ≡ true → ((x : List ℕ) → u.held x ≡ None) → Fit w u (cells_along (unit j) s)
+unit_fit w u s j h room moved unheld = record {
   long = long_of w.site w.site.keys (cells_along (unit j) s) fits;
   room = room;
   kinds = kinds_of w.site w.site.keys (cells_along (unit j) s) fits;
   still = λ p e. of_equal _ _ (still_unit s j p (λ f. (let k : true ≡ false = sym moved ∙ (ap (λ (m : ℕ). u.moved (name_at w.site.keys m)) (sym f) ∙ e) in cc)));
+  held = λ p n y e g. (let k : None ≡ Some n = sym (unheld (name_at w.site.keys p)) ∙ g in cc);
 }
   where
     fits : Fits w.site (cells_along (unit j) s)

@@ -269,14 +269,14 @@ variables_set w (x ∷ xs) s t vs bs h =
 index_kind : (site : Site) (x : List ℕ) (z : ℤ) → site.ring x ≡ false → IsIndex z → HasKind (kind_of site x) (Index z)
 index_kind site x z h i = rw h i
 
-pub set_fit : (w : World) (u : Use) (xs : Settings) (s : Cells) → Fit w u s → AllOwn w (set_names xs) → ((x : List ℕ) → has_name x (set_names xs) ≡ true → w.site.ring x ≡ false) → AllIndex xs → Fit w u (set_cells w.site xs s)
-set_fit w u [] s fit own whole h = fit
-set_fit w u (x ∷ xs) s fit own whole h =
+pub set_fit : (w : World) (u : Use) (xs : Settings) (s : Cells) → Fit w u s → AllOwn w (set_names xs) → ((x : List ℕ) → has_name x (set_names xs) ≡ true → w.site.ring x ≡ false) → ((x : List ℕ) → has_name x (set_names xs) ≡ true → u.held x ≡ None) → AllIndex xs → Fit w u (set_cells w.site xs s)
+set_fit w u [] s fit own whole unheld h = fit
+set_fit w u (x ∷ xs) s fit own whole unheld h =
     let q = own.0.q in
     let st = stands w.site.keys x.0 [] q own.0.place in
     let first-cells : set_cells w.site (x ∷ xs) s ≡ set_cells w.site xs (slice_set s q (Some (Index x.1))) = ap (set_cells w.site xs) (set_at_is w.site x.0 q (Some (Index x.1)) s own.0.place) in
     subst (λ (c : Cells). Fit w u c) (sym first-cells)
-    (set_fit w u xs (slice_set s q (Some (Index x.1))) (fit_set w u s x.0 q (Index x.1) fit st.named st.there (index_kind w.site x.0 x.1 (whole x.0 (or_here (bytes_eq x.0 x.0) _ ((bytes_eq-Decides x.0 x.0).1 refl))) h.0) (λ e. refl)) own.1 (λ y e. whole y (or_there (bytes_eq y x.0) _ e)) h.1)
+    (set_fit w u xs (slice_set s q (Some (Index x.1))) (fit_set w u s x.0 q (Index x.1) fit st.named st.there (index_kind w.site x.0 x.1 (whole x.0 (or_here (bytes_eq x.0 x.0) _ ((bytes_eq-Decides x.0 x.0).1 refl))) h.0) (λ e. refl) (unheld x.0 (or_here (bytes_eq x.0 x.0) _ ((bytes_eq-Decides x.0 x.0).1 refl)))) own.1 (λ y e. whole y (or_there (bytes_eq y x.0) _ e)) (λ y e. unheld y (or_there (bytes_eq y x.0) _ e)) h.1)
   where
     or_here : (a b : Bool) → a ≡ true → (a || b) ≡ true
     or_here a b e = rw e refl

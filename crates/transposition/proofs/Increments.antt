@@ -49,7 +49,7 @@ use Rattle.transposition.proofs.Calculus.{Sums, sums_same, sums_both, expression
 use Rattle.transposition.proofs.Taping.{wordless_terms, wordless_all}
 use Rattle.transposition.specs.Reads.{value_tree}
 use Rattle.transposition.proofs.Flats.{flat_value}
-use Rattle.transposition.proofs.Plain.{without, needs_without, needs_all_without, scene_without, like_other, adjoint_got, tangents_on, tangents_off, differentiated_if}
+use Rattle.transposition.proofs.Plain.{without, needs_without, needs_all_without, scene_without, like_other, adjoint_got, tangents_on, tangents_off, differentiated_if, held_other}
 
 -- ---- the terms
 
@@ -228,21 +228,24 @@ tangent_held (Ring d) = refl
 
 -- the value set back by the terms
 like_ungrown : (u : Use) (keys : List Key) (vs : List ℕ) (s : Cells) (q : ℕ) (ds : List (Bool × Dual)) (v : Value) → q < length vs → q < length s → content s q ≡ Some v → word_of (Some v) ≡ (as_dual v).value → (as_dual v).value < 2 ^ 64
-    → Like u keys vs (slice_set s q (Some (Ring (incremented_dual ds (as_dual v))))) → Like u keys (slice_set vs q (ring_add (slice_index vs q) (amount ds 0))) s
-like_ungrown u keys vs s q ds v i j held wd small l p y h n = by_place (p == q) refl
+    → u.held (name_at keys q) ≡ None → Like u keys vs (slice_set s q (Some (Ring (incremented_dual ds (as_dual v))))) → Like u keys (slice_set vs q (ring_add (slice_index vs q) (amount ds 0))) s
+like_ungrown u keys vs s q ds v i j held wd small free l = record {
+  read = λ p y h n. by_place p y h n (p == q) refl;
+  held = held_other u keys vs q x free l.held;
+}
   where
     x : ℕ
     x = ring_add (slice_index vs q) (amount ds 0)
 
-    by_place : (b : Bool) → (p == q) ≡ b → slice_index (slice_set vs q x) p ≡ word_of (Some y)
-    by_place true e =
+    by_place : (p : ℕ) (y : Value) → content s p ≡ Some y → u.needed (name_at keys p) ≡ true → (b : Bool) → (p == q) ≡ b → slice_index (slice_set vs q x) p ≡ word_of (Some y)
+    by_place p y h n true e =
         let f : p ≡ q = eqb-true p q e in
-        let g : slice_index vs q ≡ (incremented_dual ds (as_dual v)).value = l q (Ring (incremented_dual ds (as_dual v))) (content_set_same s q (Some (Ring (incremented_dual ds (as_dual v)))) j) (ap (λ (m : ℕ). u.needed (name_at keys m)) (sym f) ∙ n) in
+        let g : slice_index vs q ≡ (incremented_dual ds (as_dual v)).value = l.read q (Ring (incremented_dual ds (as_dual v))) (content_set_same s q (Some (Ring (incremented_dual ds (as_dual v)))) j) (ap (λ (m : ℕ). u.needed (name_at keys m)) (sym f) ∙ n) in
         let same : Some y ≡ Some v = sym h ∙ (ap (content s) f ∙ held) in
         ap (λ (m : ℕ). slice_index (slice_set vs q x) m) f ∙ (get_or-set_same vs q x 0 i ∙ (ap (λ (m : ℕ). ring_add m (amount ds 0)) g ∙ (undone_value ds (as_dual v) small ∙ (sym wd ∙ ap word_of (sym same)))))
-    by_place false e =
+    by_place p y h n false e =
         let f : p ≢ q = λ g. (let k : true ≡ false = sym (eq-eqb p q g) ∙ e in cc) in
-        get_or-set_other vs q p x 0 f ∙ l p y (content_set_other s q p (Some (Ring (incremented_dual ds (as_dual v)))) f ∙ h) n
+        get_or-set_other vs q p x 0 f ∙ l.read p y (content_set_other s q p (Some (Ring (incremented_dual ds (as_dual v)))) f ∙ h) n
 
 record Ungrown (w : World) (u : Use) (ts : Log) (r : Played Local) (t : Tape) (s : Cells) (bs : List ℕ) : Type 0 where
   pub vs1 : List ℕ
@@ -319,7 +322,7 @@ ungrown_ran w u s vs bs t ts atomic p rs s2 fit sound k told subs covered l wide
           vs1 = slice_set vs k.q (ring_add (slice_index vs k.q) a);
           out = refl;
           cells = refl;
-          like = like_ungrown u w.site.keys vs s k.q k.ds k.v (let i = st.there in omega arith) (let i = st.there in let j = fit.long in omega arith) k.held (word_held (kind_of w.site p.name) k.v is_ring kinds) (ring_held (kind_of w.site p.name) k.v is_ring kinds) l;
+          like = like_ungrown u w.site.keys vs s k.q k.ds k.v (let i = st.there in omega arith) (let i = st.there in let j = fit.long in omega arith) k.held (word_held (kind_of w.site p.name) k.v is_ring kinds) (ring_held (kind_of w.site p.name) k.v is_ring kinds) (ap u.held st.named ∙ sound.target.unheld) l;
           wide = length-set vs k.q _ ∙ wide;
           cover = cover_both w ts _ _ (terms.cover (silent ts)) (cover_both w ts _ _ (place.cover (silent ts)) last_ops);
         })))

@@ -138,9 +138,10 @@ begun_private w u inner number directive var tree sound xs e s p size there f =
     (variables_set w xs (with_all_unset w.site (privates_of w directive var tree) s) empty [] [] (own_variables w u inner number directive var tree sound xs e)).same p (ap (has_name (name_at w.site.keys p)) e ∙ not_varied w u inner number directive var tree sound (name_at w.site.keys p) f)
     ∙ unset_here w (privates_of w directive var tree) s p sound.privates (omega arith) f
 
-pub begun_fit : (w : World) (u inner : Use) (number : ℕ) (directive : Directive) (var : List ℕ) (tree : Statements) → (sound : RoundFacts w u inner number directive var tree) → (xs : Settings) → Varies xs directive var tree → AllIndex xs → (s : Cells) → Fit w u s
-    → Fit (in_iteration w number directive var tree) inner (begun w directive var tree xs s)
-begun_fit w u inner number directive var tree sound xs varies ix s fit =
+-- what holds outside holds there, too
+pub begun_outer : (w : World) (u inner : Use) (number : ℕ) (directive : Directive) (var : List ℕ) (tree : Statements) → (sound : RoundFacts w u inner number directive var tree) → (xs : Settings) → Varies xs directive var tree → AllIndex xs → (s : Cells) → Fit w u s
+    → Fit w u (begun w directive var tree xs s)
+begun_outer w u inner number directive var tree sound xs varies ix s fit =
     let names = privates_of w directive var tree in
     let s0 = with_all_unset w.site names s in
     let fit0 : Fit w u s0 = record {
@@ -148,13 +149,17 @@ begun_fit w u inner number directive var tree sound xs varies ix s fit =
       room = fit.room;
       kinds = λ p y e. kinds_by p y e (has_name (name_at w.site.keys p) names) refl;
       still = λ p e. still_by p e (has_name (name_at w.site.keys p) names) refl;
+      held = λ p n y e g. held_by p n y e g (has_name (name_at w.site.keys p) names) refl;
     } in
-    let fit1 = set_fit w u xs s0 fit0 (own_variables w u inner number directive var tree sound xs varies) (λ x f. sound.whole x (sym (ap (has_name x) varies) ∙ f)) ix in
-    record { long = fit1.long; room = fit1.room; kinds = fit1.kinds; still = λ p e. fit1.still p (sym (sound.moved (name_at w.site.keys p)) ∙ e) }
+    set_fit w u xs s0 fit0 (own_variables w u inner number directive var tree sound xs varies) (λ x f. sound.whole x (sym (ap (has_name x) varies) ∙ f)) (λ x f. sound.unheld x (sym (ap (has_name x) varies) ∙ f)) ix
   where
     none_of : (p : ℕ) (y : Value) → content (with_all_unset w.site (privates_of w directive var tree) s) p ≡ Some y → has_name (name_at w.site.keys p) (privates_of w directive var tree) ≡ true → (b : Bool) → nat_lt p (length s) ≡ b → ⊥
     none_of p y e f true g = let k : None ≡ Some y = sym (unset_here w (privates_of w directive var tree) s p sound.privates (less p (length s) g) f) ∙ e in cc
     none_of p y e f false g = let k : None ≡ Some y = sym (content_past (with_all_unset w.site (privates_of w directive var tree) s) p (let a = unset_long w (privates_of w directive var tree) s sound.privates in let b = not_less p (length s) g in omega arith)) ∙ e in cc
+
+    held_by : (p n : ℕ) (y : Value) → content (with_all_unset w.site (privates_of w directive var tree) s) p ≡ Some y → u.held (name_at w.site.keys p) ≡ Some n → (b : Bool) → has_name (name_at w.site.keys p) (privates_of w directive var tree) ≡ b → word_of (Some y) ≡ n
+    held_by p n y e g true f = absurd (none_of p y e f (nat_lt p (length s)) refl)
+    held_by p n y e g false f = fit.held p n y (sym (unset_other w (privates_of w directive var tree) s p sound.privates f) ∙ e) g
 
     kinds_by : (p : ℕ) (y : Value) → content (with_all_unset w.site (privates_of w directive var tree) s) p ≡ Some y → (b : Bool) → has_name (name_at w.site.keys p) (privates_of w directive var tree) ≡ b → HasKind (kind_of w.site (name_at w.site.keys p)) y
     kinds_by p y e true f = absurd (none_of p y e f (nat_lt p (length s)) refl)
@@ -167,6 +172,18 @@ begun_fit w u inner number directive var tree sound xs varies ix s fit =
     still_by : (p : ℕ) → u.moved (name_at w.site.keys p) ≡ false → (b : Bool) → has_name (name_at w.site.keys p) (privates_of w directive var tree) ≡ b → Same (tangent_of (content (with_all_unset w.site (privates_of w directive var tree) s) p)) 0
     still_by p e true f = still_of (content (with_all_unset w.site (privates_of w directive var tree) s) p) p refl f
     still_by p e false f = subst (λ (c : Option Value). Same (tangent_of c) 0) (sym (unset_other w (privates_of w directive var tree) s p sound.privates f)) (fit.still p e)
+
+pub begun_fit : (w : World) (u inner : Use) (number : ℕ) (directive : Directive) (var : List ℕ) (tree : Statements) → (sound : RoundFacts w u inner number directive var tree) → (xs : Settings) → Varies xs directive var tree → AllIndex xs → (s : Cells) → Fit w u s
+    → Fit (in_iteration w number directive var tree) inner (begun w directive var tree xs s)
+begun_fit w u inner number directive var tree sound xs varies ix s fit =
+    let fit1 = begun_outer w u inner number directive var tree sound xs varies ix s fit in
+    record {
+      long = fit1.long;
+      room = fit1.room;
+      kinds = fit1.kinds;
+      still = λ p e. fit1.still p (sym (sound.moved (name_at w.site.keys p)) ∙ e);
+      held = λ p n y e g. (let k : None ≡ Some n = sym (sound.fresh (name_at w.site.keys p)) ∙ g in cc);
+    }
 
 -- ---- words of the outside kept, those of the iteration dropped
 
@@ -287,11 +304,11 @@ iteration_step w u inner number directive var tree sound heads tapes m k s s2 va
     flat-is : flat n vs bs ≡ flat n re.vs1 cl.bs1
     flat-is = rw (re.cells, cl.cells) (ap (λ (x : List ℕ). x ++ take n bs) (sym va.cells))
 
-    like2 : Like inner w.site.keys re.vs1 s2
-    like2 p y e i = by_private (has_name (name_at w.site.keys p) names) refl (nat_lt p (length vs1)) refl
+    read2 : (p : ℕ) (y : Value) → content s2 p ≡ Some y → inner.needed (name_at w.site.keys p) ≡ true → slice_index re.vs1 p ≡ word_of (Some y)
+    read2 p y e i = by_private (has_name (name_at w.site.keys p) names) refl (nat_lt p (length vs1)) refl
       where
         by_assigned : (b : Bool) → writes_in (name_at w.site.keys p) body ≡ b → has_name (name_at w.site.keys p) names ≡ true → p < length vs1 → slice_index re.vs1 p ≡ word_of (Some y)
-        by_assigned true f g j = re.here p j g (sound.assigned (name_at w.site.keys p) g ∙ f) (sound.pushed (name_at w.site.keys p) g i) ∙ ap word_of e
+        by_assigned true f g j = re.here p j g (sound.assigned (name_at w.site.keys p) g ∙ f) (sound.pushed (name_at w.site.keys p) g i f) ∙ ap word_of e
         by_assigned false f g j =
             let none : None ≡ Some y = sym (kept.same p f ∙ begun_private w u inner number directive var tree sound xs varies s p fit.long (let a = va.long in omega arith) g) ∙ e in cc
 
@@ -304,12 +321,15 @@ iteration_step w u inner number directive var tree sound heads tapes m k s s2 va
 
         by_variable : (b : Bool) → has_name (name_at w.site.keys p) vars ≡ b → has_name (name_at w.site.keys p) names ≡ false → slice_index re.vs1 p ≡ word_of (Some y)
         by_variable true f g = by_place f g (nat_lt p (length vs)) refl
-        by_variable false f g = re.other p g ∙ (va.other p (ap (has_name (name_at w.site.keys p)) varies ∙ f) ∙ like p y e (sound.needed (name_at w.site.keys p) i g f))
+        by_variable false f g = re.other p g ∙ (va.other p (ap (has_name (name_at w.site.keys p)) varies ∙ f) ∙ like.read p y e (sound.needed (name_at w.site.keys p) i g f))
 
         by_private : (b : Bool) → has_name (name_at w.site.keys p) names ≡ b → (c : Bool) → nat_lt p (length vs1) ≡ c → slice_index re.vs1 p ≡ word_of (Some y)
         by_private true f true g = by_assigned (writes_in (name_at w.site.keys p) body) refl f (less p (length vs1) g)
         by_private true f false g = let none : None ≡ Some y = sym (content_past s2 p (let a = kept.fit.long in let b = not_less p (length vs1) g in let d = va.long in omega arith)) ∙ e in cc
         by_private false f c g = by_variable (has_name (name_at w.site.keys p) vars) refl f
+
+    like2 : Like inner w.site.keys re.vs1 s2
+    like2 = record { read = read2; held = λ p m g. (let k : None ≡ Some m = sym (sound.fresh (name_at w.site.keys p)) ∙ g in cc) }
 
     small2 : AreWords cl.bs1
     small2 p = by_private (has_name (name_at w.site.keys p) names) refl
@@ -348,18 +368,28 @@ iteration_step w u inner number directive var tree sound heads tapes m k s s2 va
     same_before : (p : ℕ) → has_name (name_at w.site.keys p) names ≡ false → has_name (name_at w.site.keys p) vars ≡ false → content s1 p ≡ content s p
     same_before p e d = begun_other w u inner number directive var tree sound xs varies s p e d
 
-    like3 : Like u w.site.keys (mixed n ends.vs2 vs) s
-    like3 p y e i = by_side (nat_lt p n) refl
-      where
-        out : (inner.needed (name_at w.site.keys p) ≡ true) × (has_name (name_at w.site.keys p) names ≡ false) × (has_name (name_at w.site.keys p) vars ≡ false)
-        out = sound.outside (name_at w.site.keys p) i
+    held3 : (p m : ℕ) → u.held (name_at w.site.keys p) ≡ Some m → (b : Bool) → nat_lt p n ≡ b → slice_index (mixed n ends.vs2 vs) p ≡ m
+    held3 p m g true f = let k : None ≡ Some m = sym (sound.low p (less p n f)) ∙ g in cc
+    held3 p m g false f = mixed_above n p ends.vs2 vs room3 (not_less p n f) ∙ like.held p m g
 
-        same : content s1 p ≡ content s p
-        same = same_before p out.1 out.2
+    read3 : (p : ℕ) (y : Value) → content s p ≡ Some y → u.needed (name_at w.site.keys p) ≡ true → slice_index (mixed n ends.vs2 vs) p ≡ word_of (Some y)
+    read3 p y e i = by_side (nat_lt p n) refl
+      where
+        -- a variable of a loop around has its word, whether the iteration unset it or not
+        by_place : n ≤ p → (b : Bool) → nat_lt p (length w.site.keys) ≡ b → slice_index (mixed n ends.vs2 vs) p ≡ word_of (Some y)
+        by_place f true j =
+            let h = sound.stays p f (less p (length w.site.keys) j) i in
+            mixed_above n p ends.vs2 vs room3 f ∙ (like.held p h.0 h.1 ∙ sym (fit.held p h.0 y e h.1))
+        by_place f false j = let none : None ≡ Some y = sym (content_past s p (let a = fit.long in let b = not_less p (length w.site.keys) j in omega arith)) ∙ e in cc
 
         by_side : (b : Bool) → nat_lt p n ≡ b → slice_index (mixed n ends.vs2 vs) p ≡ word_of (Some y)
-        by_side true f = mixed_below n p ends.vs2 vs room3 (less p n f) ∙ ends.like p y (same ∙ e) out.0
-        by_side false f = mixed_above n p ends.vs2 vs room3 (not_less p n f) ∙ like p y (kept.same p (sound.stays p (not_less p n f) i) ∙ (same ∙ e)) i
+        by_side true f =
+            let same = same_before p (not_private w names p sound.privates (less p n f)) (not_private w vars p sound.variables (less p n f)) in
+            mixed_below n p ends.vs2 vs room3 (less p n f) ∙ ends.like.read p y (same ∙ e) (sound.outside (name_at w.site.keys p) i)
+        by_side false f = by_place (not_less p n f) (nat_lt p (length w.site.keys)) refl
+
+    like3 : Like u w.site.keys (mixed n ends.vs2 vs) s
+    like3 = record { read = read3; held = λ p m g. held3 p m g (nat_lt p n) refl }
 
     zero_times : (a x : ℕ) → x ≡ 0 → a * x ≡ 0
     zero_times a x e = rw e (omega arith)

@@ -19,7 +19,7 @@ use Rattle.meaning.specs.declared.value.Dual.{Dual}
 use Rattle.meaning.specs.declared.value.Value.{Value}
 use Rattle.meaning.specs.declared.value.Value.TheVariants.{Index, Ring}
 use Rattle.meaning.specs.Values.{as_dual, dual_add, dual_sub, as_kind, whole_numbers}
-use Rattle.meaning.specs.Sites.{Cells, Site, kind_of}
+use Rattle.meaning.specs.Sites.{Cells, Site, kind_of, word_of}
 use Rattle.meaning.specs.Expressions.{content}
 use Rattle.meaning.specs.Statements.{plain_assignment, terms_of, incremented_dual, increment, assignment_by}
 use Rattle.meaning.specs.Adjoints.{tangent_of}
@@ -63,12 +63,13 @@ pub keeps_wider : (w : World) (u : Use) (one more : List ℕ → Bool) (s s2 : C
 keeps_wider w u one more s s2 h k = record { fit = k.fit; same = λ p e. k.same p (h (name_at w.site.keys p) e) }
 
 -- a place set
-pub fit_set : (w : World) (u : Use) (s : Cells) (x : List ℕ) (q : ℕ) (v : Value) → Fit w u s → name_at w.site.keys q ≡ x → q < length w.site.keys → HasKind (kind_of w.site x) v → (u.moved x ≡ false → Same (tangent_of (Some v)) 0) → Fit w u (slice_set s q (Some v))
-fit_set w u s x q v h named there kinds still = record {
+pub fit_set : (w : World) (u : Use) (s : Cells) (x : List ℕ) (q : ℕ) (v : Value) → Fit w u s → name_at w.site.keys q ≡ x → q < length w.site.keys → HasKind (kind_of w.site x) v → (u.moved x ≡ false → Same (tangent_of (Some v)) 0) → u.held x ≡ None → Fit w u (slice_set s q (Some v))
+fit_set w u s x q v h named there kinds still unheld = record {
   long = length-set s q (Some v) ∙ h.long;
   room = h.room;
   kinds = λ p y e. kinds_by p y e (p == q) refl;
   still = λ p e. still_by p e (p == q) refl;
+  held = λ p n y e g. held_by p n y e g (p == q) refl;
 }
   where
     apart : (p : ℕ) → (p == q) ≡ false → p ≢ q
@@ -76,6 +77,10 @@ fit_set w u s x q v h named there kinds still = record {
 
     held : content (slice_set s q (Some v)) q ≡ Some v
     held = content_set_same s q (Some v) (let i = h.long in omega arith)
+
+    held_by : (p n : ℕ) (y : Value) → content (slice_set s q (Some v)) p ≡ Some y → u.held (name_at w.site.keys p) ≡ Some n → (b : Bool) → (p == q) ≡ b → word_of (Some y) ≡ n
+    held_by p n y e g true f = let k : None ≡ Some n = sym unheld ∙ (ap u.held (sym (ap (name_at w.site.keys) (eqb-true p q f) ∙ named)) ∙ g) in cc
+    held_by p n y e g false f = h.held p n y (sym (content_set_other s q p (Some v) (apart p f)) ∙ e) g
 
     kinds_by : (p : ℕ) (y : Value) → content (slice_set s q (Some v)) p ≡ Some y → (b : Bool) → (p == q) ≡ b → HasKind (kind_of w.site (name_at w.site.keys p)) y
     kinds_by p y e true f =
@@ -91,10 +96,10 @@ fit_set w u s x q v h named there kinds still = record {
         subst (λ (c : Option Value). Same (tangent_of c) 0) (sym (ap (content (slice_set s q (Some v))) g ∙ held)) (still (ap u.moved (sym (ap (name_at w.site.keys) g ∙ named)) ∙ e))
     still_by p e false f = subst (λ (c : Option Value). Same (tangent_of c) 0) (sym (content_set_other s q p (Some v) (apart p f))) (h.still p e)
 
-pub keeps_set : (w : World) (u : Use) (s : Cells) (x : List ℕ) (q : ℕ) (v : Value) → Fit w u s → name_at w.site.keys q ≡ x → q < length w.site.keys → HasKind (kind_of w.site x) v → (u.moved x ≡ false → Same (tangent_of (Some v)) 0)
+pub keeps_set : (w : World) (u : Use) (s : Cells) (x : List ℕ) (q : ℕ) (v : Value) → Fit w u s → name_at w.site.keys q ≡ x → q < length w.site.keys → HasKind (kind_of w.site x) v → (u.moved x ≡ false → Same (tangent_of (Some v)) 0) → u.held x ≡ None
     → Keeps w u (λ y. bytes_eq y x) s (slice_set s q (Some v))
-keeps_set w u s x q v h named there kinds still = record {
-  fit = fit_set w u s x q v h named there kinds still;
+keeps_set w u s x q v h named there kinds still unheld = record {
+  fit = fit_set w u s x q v h named there kinds still unheld;
   same = λ p e. content_set_other s q p (Some v) (λ g. (let k : true ≡ false = sym ((bytes_eq-Decides (name_at w.site.keys p) x).1 (ap (name_at w.site.keys) g ∙ named)) ∙ e in cc));
 }
 
@@ -122,13 +127,13 @@ not_ring site x h = by_test (site.ring x) h
     by_test true g = cc
     by_test false g = refl
 
-plain_kept : (w : World) (u : Use) (s : Cells) (p : Designator) (e : Expression) (s2 : Cells) → Fit w u s → SoundStore w u p e → (plain_assignment w.site s p e).out ≡ Ok s2 → Keeps w u (λ y. bytes_eq y p.name) s s2
-plain_kept w u s p e s2 fit sound h =
+plain_kept : (w : World) (u : Use) (s : Cells) (p : Designator) (e : Expression) (s2 : Cells) → Fit w u s → SoundStore w u p e → u.held p.name ≡ None → (plain_assignment w.site s p e).out ≡ Ok s2 → Keeps w u (λ y. bytes_eq y p.name) s s2
+plain_kept w u s p e s2 fit sound unheld h =
     let k = plain_run w.site s p e s2 h in
     let st = stands w.site.keys p.name (whole_numbers k.vals) k.q k.place in
     rw k.cells (keeps_set w u s p.name k.q (as_kind (kind_of w.site p.name) k.v) fit st.named st.there
     (converted_kind (kind_of w.site p.name) k.v (value_sized w u s fit e sound.literals k.v k.out) (λ i. value_whole w u s fit e (sound.whole (not_ring w.site p.name i)) k.v k.out))
-    (λ i. converted_still (kind_of w.site p.name) k.v (value_still w u s fit e (sound.still i) k.v k.out)))
+    (λ i. converted_still (kind_of w.site p.name) k.v (value_still w u s fit e (sound.still i) k.v k.out)) unheld)
 
 terms_still : (w : World) (u : Use) (s : Cells) → Fit w u s → (rs : List Signed) → UnmovedTerms u rs → (ds : List (Bool × Dual)) → (terms_of rs w.site s).out ≡ Ok ds → Same (drift ds) 0
 terms_still w u s fit [] q ds h = let e : [] ≡ ds = cc in of_equal (drift ds) 0 (ap drift (sym e))
@@ -145,16 +150,16 @@ ring_kind : (k : Kind) (v : Value) → k ≡ kind.Ring → (d : Dual) → d.valu
 ring_kind kind.Ring v e d h = h
 ring_kind kind.Index v e d h = cc
 
-increment_kept : (w : World) (u : Use) (s : Cells) (p : Designator) (rs : List Signed) (n : AccessKind) (s2 : Cells) → Fit w u s → w.site.ring p.name ≡ true → (u.moved p.name ≡ false → UnmovedTerms u rs) → (increment w.site s p rs n).out ≡ Ok s2 → Keeps w u (λ y. bytes_eq y p.name) s s2
-increment_kept w u s p rs n s2 fit ring still h =
+increment_kept : (w : World) (u : Use) (s : Cells) (p : Designator) (rs : List Signed) (n : AccessKind) (s2 : Cells) → Fit w u s → w.site.ring p.name ≡ true → (u.moved p.name ≡ false → UnmovedTerms u rs) → u.held p.name ≡ None → (increment w.site s p rs n).out ≡ Ok s2 → Keeps w u (λ y. bytes_eq y p.name) s s2
+increment_kept w u s p rs n s2 fit ring still unheld h =
     let k = increment_run w.site s p rs n s2 h in
     let st = stands w.site.keys p.name (whole_numbers k.vals) k.q k.place in
     let is_ring : kind_of w.site p.name ≡ kind.Ring = rw ring refl in
     let kinds : HasKind (kind_of w.site p.name) k.v = subst (λ (y : List ℕ). HasKind (kind_of w.site y) k.v) st.named (fit.kinds k.q k.v k.held) in
     rw k.cells (keeps_set w u s p.name k.q (Ring (incremented_dual k.ds (as_dual k.v))) fit st.named st.there
     (ring_kind (kind_of w.site p.name) k.v is_ring (incremented_dual k.ds (as_dual k.v)) (grown_small k.ds (as_dual k.v) (ring_held (kind_of w.site p.name) k.v is_ring kinds)))
-    (λ i. grown_tangent k.ds (as_dual k.v) ∙ (same_sum (as_dual k.v).tangent 0 (drift k.ds) 0 (subst (λ (m : ℕ). Same m 0) (ap tangent_of k.held ∙ tangent_held k.v) (fit.still k.q (ap u.moved st.named ∙ i))) (terms_still w u s fit rs (still i) k.ds k.out) ∙ of_equal (0 + 0) 0 (omega arith))))
+    (λ i. grown_tangent k.ds (as_dual k.v) ∙ (same_sum (as_dual k.v).tangent 0 (drift k.ds) 0 (subst (λ (m : ℕ). Same m 0) (ap tangent_of k.held ∙ tangent_held k.v) (fit.still k.q (ap u.moved st.named ∙ i))) (terms_still w u s fit rs (still i) k.ds k.out) ∙ of_equal (0 + 0) 0 (omega arith))) unheld)
 
 pub assigned_kept : (w : World) (u : Use) (s : Cells) (atomic : Bool) (p : Designator) (e : Expression) (o : Option (List Signed)) (s2 : Cells) → Fit w u s → SoundAssigned w u p e o → (assignment_by w.site s atomic p e o).out ≡ Ok s2 → Keeps w u (λ y. bytes_eq y p.name) s s2
-assigned_kept w u s atomic p e None s2 fit sound h = plain_kept w u s p e s2 fit sound.1 h
-assigned_kept w u s atomic p e (Some rs) s2 fit sound h = increment_kept w u s p rs (increment_kind atomic (w.site.pluses p.name)) s2 fit sound.0.whole sound.1 h
+assigned_kept w u s atomic p e None s2 fit sound h = plain_kept w u s p e s2 fit sound.1 sound.0.target.unheld h
+assigned_kept w u s atomic p e (Some rs) s2 fit sound h = increment_kept w u s p rs (increment_kind atomic (w.site.pluses p.name)) s2 fit sound.0.whole sound.1 sound.0.target.unheld h

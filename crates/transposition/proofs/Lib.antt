@@ -38,6 +38,7 @@ pub mod Meeting
 mod WithPrivate
 mod WithNested
 mod WithCollapsed
+mod WithUnset
 pub mod WholePrograms
 pub mod RoundFacts
 pub mod Fits

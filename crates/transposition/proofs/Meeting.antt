@@ -1,6 +1,6 @@
 -- What programs that meet the premises of the law are shown with.
 use Rattle.std.proofs.Common.{◌≡◌, ℕ, zero, suc, List, [], ◌∷◌, refl, ap, sym, ◌∙◌, subst, Bool, true, false, not, ◌&&◌, ◌||◌, Option, Some, None, arith}
-use Rattle.std.specs.Prelude.{bytes_eq, nat_lt, nat_eq}
+use Rattle.std.specs.Prelude.{bytes_eq, nat_lt, nat_eq, slice_index}
 use Rattle.std.proofs.lemmas.Bool.{and_parts}
 use Rattle.std.proofs.lemmas.Bool.Decides.{nat_tests}
 use Rattle.std.proofs.lemmas.Slice.Eq.{bytes_eq-Decides}
@@ -17,6 +17,7 @@ use Rattle.transposition.specs.Law.{Use, Like}
 use Rattle.meaning.specs.Fitting.{HasKind}
 use Rattle.transposition.proofs.Keys.{name_later}
 use Rattle.transposition.proofs.Places.{content_later}
+use Rattle.meaning.specs.Expressions.{content}
 
 -- ---- names
 
@@ -106,11 +107,11 @@ words_held u keys [] (c ∷ s) = false
 words_held u [] (n ∷ vs) (c ∷ s) = false
 words_held u (k ∷ keys) (n ∷ vs) (c ∷ s) = (not (u.needed k.0) || word_held c n) && words_held u keys vs s
 
-pub held_words : (u : Use) (keys : List Key) (vs : List ℕ) (s : Cells) → words_held u keys vs s ≡ true → Like u keys vs s
-held_words u keys vs [] h p v e n = let f : None ≡ Some v = e in cc
-held_words u keys [] (c ∷ s) h p v e n = cc
-held_words u [] (m ∷ vs) (c ∷ s) h p v e n = cc
-held_words u (k ∷ keys) (m ∷ vs) (c ∷ s) h zero v e n = by_test (u.needed k.0) n (and_parts (not (u.needed k.0) || word_held c m) (words_held u keys vs s) h).0
+read_words : (u : Use) (keys : List Key) (vs : List ℕ) (s : Cells) → words_held u keys vs s ≡ true → (p : ℕ) (v : Value) → content s p ≡ Some v → u.needed (name_at keys p) ≡ true → slice_index vs p ≡ word_of (Some v)
+read_words u keys vs [] h p v e n = let f : None ≡ Some v = e in cc
+read_words u keys [] (c ∷ s) h p v e n = cc
+read_words u [] (m ∷ vs) (c ∷ s) h p v e n = cc
+read_words u (k ∷ keys) (m ∷ vs) (c ∷ s) h zero v e n = by_test (u.needed k.0) n (and_parts (not (u.needed k.0) || word_held c m) (words_held u keys vs s) h).0
   where
     same : (c : Option Value) → c ≡ Some v → word_held c m ≡ true → m ≡ word_of (Some v)
     same None f g = cc
@@ -119,8 +120,12 @@ held_words u (k ∷ keys) (m ∷ vs) (c ∷ s) h zero v e n = by_test (u.needed 
     by_test : (b : Bool) → b ≡ true → (not b || word_held c m) ≡ true → m ≡ word_of (Some v)
     by_test true f g = same c e g
     by_test false f g = cc
-held_words u (k ∷ keys) (m ∷ vs) (c ∷ s) h (suc p) v e n =
-    held_words u keys vs s (and_parts (not (u.needed k.0) || word_held c m) (words_held u keys vs s) h).1 p v (sym (content_later c s p) ∙ e) (ap u.needed (sym (name_later k keys p)) ∙ n)
+read_words u (k ∷ keys) (m ∷ vs) (c ∷ s) h (suc p) v e n =
+    read_words u keys vs s (and_parts (not (u.needed k.0) || word_held c m) (words_held u keys vs s) h).1 p v (sym (content_later c s p) ∙ e) (ap u.needed (sym (name_later k keys p)) ∙ n)
+
+-- outside of sequential loops
+pub held_words : (u : Use) (keys : List Key) (vs : List ℕ) (s : Cells) → words_held u keys vs s ≡ true → ((x : List ℕ) → u.held x ≡ None) → Like u keys vs s
+held_words u keys vs s h unheld = record { read = read_words u keys vs s h; held = λ p n e. (let f : None ≡ Some n = sym (unheld (name_at keys p)) ∙ e in cc) }
 
 -- ---- a name with one place, by computing
 

@@ -25,7 +25,7 @@ use Rattle.transposition.specs.Law.{Use, local, flat, Like, tangents, Fit, Cover
 use Rattle.transposition.proofs.Reading.{cover_both}
 use Rattle.transposition.proofs.Kept.{Keeps}
 use Rattle.transposition.proofs.Rounds.{Round, Step, Undo, disciplined, rounds_undone, below_by}
-use Rattle.transposition.proofs.Iterations.{KeptBody, UndoneBody, Varies, iteration_run, iter_run, begun, begun_other, begun_fit, iteration_step}
+use Rattle.transposition.proofs.Iterations.{KeptBody, UndoneBody, Varies, iteration_run, iter_run, begun, begun_other, begun_fit, iteration_step, begun_outer}
 use Rattle.transposition.specs.Calms.{cells_of, state_at, inner_of, log_at, iteration_log}
 use Rattle.transposition.specs.Sound.{writes_in, privates_of}
 use Rattle.transposition.specs.Worlds.{name_at}
@@ -117,9 +117,10 @@ pub iteration_kept : (w : World) (u inner : Use) (number : ℕ) (directive : Dir
 iteration_kept w u inner number directive var tree sound keeping heads k s s2 varies ix fit h =
     let xs = settings heads k in
     let run = iter_run w directive var tree heads k s s2 h in
+    let outer = begun_outer w u inner number directive var tree sound xs varies ix s fit in
     let kept = keeping (begun w directive var tree xs s) s2 (begun_fit w u inner number directive var tree sound xs varies ix s fit) run.body in
     record {
-      fit = record { long = kept.fit.long; room = kept.fit.room; kinds = kept.fit.kinds; still = λ p e. kept.fit.still p (sound.moved (name_at w.site.keys p) ∙ e) };
+      fit = record { long = kept.fit.long; room = kept.fit.room; kinds = kept.fit.kinds; still = λ p e. kept.fit.still p (sound.moved (name_at w.site.keys p) ∙ e); held = λ p n y e g. outer.held p n y (sym (kept.same p (sound.unset (name_at w.site.keys p) (n, g))) ∙ e) g };
       same = λ p e.
           let y = name_at w.site.keys p in
           let a = or_one (bytes_eq y var) (has_name y directive.privates || writes_in y tree) e in

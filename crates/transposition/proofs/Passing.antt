@@ -315,7 +315,7 @@ mutual
   calm_one (loop line number None var first last step body) w u s s2 since sound h q r =
       λ t e k i s1 g.
       let tp = turn_start w line var first last step body s s2 since h q t e k i s1 g in
-      calm_all body (in_turn w var) (scope_with var u) (set_at (place_of w.site var []) (Some (Index (value_at t k))) s1) tp.last tp.since sound.2 tp.out tp.passes (r t e k i s1 g)
+      calm_all body (in_turn w var) (scope_with var 0 u) (set_at (place_of w.site var []) (Some (Index (value_at t k))) s1) tp.last tp.since (sound.1 0) tp.out tp.passes (r t e k i s1 g)
   calm_one (loop line number (Some directive) var first last step body) w u s s2 since sound h q r = parallel_calm w line number directive body (record { line = line; var = var; first = first; last = last; step = step }) s s2 since sound.5 h q r
 
   calm_all : (xs : Statements) (w : World) (u : Use) (s s2 : Cells) (since : List Touch) → SoundAll w u xs → (run_all xs w.site s).out ≡ Ok s2 → Passes since (events_in 0 (run_all xs w.site s).log) → PairwiseAll SharedApart xs w s → IsCalmAll xs w s

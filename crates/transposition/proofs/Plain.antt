@@ -78,32 +78,46 @@ not_true true h k = cc
 not_true false h k = cc
 
 pub like_without : (u : Use) (keys : List Key) (x : List ℕ) (vs : List ℕ) (s : Cells) (q : ℕ) (c : Option Value) → name_at keys q ≡ x → Like u keys vs (slice_set s q c) → Like (without x u) keys vs s
-like_without u keys x vs s q c named l p v h n =
-    let parts : (u.needed (name_at keys p) ≡ true) × (not (bytes_eq (name_at keys p) x) ≡ true) = and_parts (u.needed (name_at keys p)) (not (bytes_eq (name_at keys p) x)) n in
-    l p v (content_set_other s q p c (λ e. not_true (bytes_eq (name_at keys p) x) parts.1 (same_bytes (name_at keys p) x (ap (name_at keys) e ∙ named))) ∙ h) parts.0
+like_without u keys x vs s q c named l = record {
+  read = λ p v h n.
+      let parts : (u.needed (name_at keys p) ≡ true) × (not (bytes_eq (name_at keys p) x) ≡ true) = and_parts (u.needed (name_at keys p)) (not (bytes_eq (name_at keys p) x)) n in
+      l.read p v (content_set_other s q p c (λ e. not_true (bytes_eq (name_at keys p) x) parts.1 (same_bytes (name_at keys p) x (ap (name_at keys) e ∙ named))) ∙ h) parts.0;
+  held = l.held;
+}
 
 -- the scene in which the target's name isn't read
 pub scene_without : (w : World) (u : Use) (s : Cells) (x : List ℕ) (q : ℕ) (c : Option Value) (vs bs : List ℕ) → Fit w u s → name_at w.site.keys q ≡ x → Like u w.site.keys vs (slice_set s q c)
     → length vs ≡ length w.site.keys → length bs ≡ length w.site.keys → Scene w (without x u) s vs bs
 scene_without w u s x q c vs bs fit named l wide long =
-    record { fit = record { long = fit.long; room = fit.room; kinds = fit.kinds; still = fit.still }; like = like_without u w.site.keys x vs s q c named l; wide = wide; long = long }
+    record { fit = record { long = fit.long; room = fit.room; kinds = fit.kinds; still = fit.still; held = fit.held }; like = like_without u w.site.keys x vs s q c named l; wide = wide; long = long }
+
+-- a word that is set at a place that isn't held
+pub held_other : (u : Use) (keys : List Key) (vs : List ℕ) (q x : ℕ) → u.held (name_at keys q) ≡ None → ((p n : ℕ) → u.held (name_at keys p) ≡ Some n → slice_index vs p ≡ n)
+    → (p n : ℕ) → u.held (name_at keys p) ≡ Some n → slice_index (slice_set vs q x) p ≡ n
+held_other u keys vs q x free l p n h =
+    get_or-set_other vs q p x 0 (λ g. (let k : None ≡ Some n = sym free ∙ (ap (λ (m : ℕ). u.held (name_at keys m)) (sym g) ∙ h) in cc)) ∙ l p n h
 
 -- the old word set again
-pub like_restored : (u : Use) (keys : List Key) (vs : List ℕ) (s : Cells) (q : ℕ) (c : Option Value) → q < length vs → Like u keys vs (slice_set s q c) → Like u keys (slice_set vs q (word_of (content s q))) s
-like_restored u keys vs s q c i l p v h n = by_place (p == q) refl
+pub like_restored : (u : Use) (keys : List Key) (vs : List ℕ) (s : Cells) (q : ℕ) (c : Option Value) → q < length vs → u.held (name_at keys q) ≡ None → Like u keys vs (slice_set s q c) → Like u keys (slice_set vs q (word_of (content s q))) s
+like_restored u keys vs s q c i free l = record {
+  read = λ p v h n. by_place p v h n (p == q) refl;
+  held = held_other u keys vs q (word_of (content s q)) free l.held;
+}
   where
-    by_place : (b : Bool) → (p == q) ≡ b → slice_index (slice_set vs q (word_of (content s q))) p ≡ word_of (Some v)
-    by_place true e =
+    by_place : (p : ℕ) (v : Value) → content s p ≡ Some v → u.needed (name_at keys p) ≡ true → (b : Bool) → (p == q) ≡ b → slice_index (slice_set vs q (word_of (content s q))) p ≡ word_of (Some v)
+    by_place p v h n true e =
         let f : p ≡ q = eqb-true p q e in
         ap (λ (m : ℕ). slice_index (slice_set vs q (word_of (content s q))) m) f ∙ (get_or-set_same vs q (word_of (content s q)) 0 i ∙ ap word_of (ap (content s) (sym f) ∙ h))
-    by_place false e =
+    by_place p v h n false e =
         let f : p ≢ q = λ g. (let k : true ≡ false = sym (eq-eqb p q g) ∙ e in cc) in
-        get_or-set_other vs q p (word_of (content s q)) 0 f ∙ l p v (content_set_other s q p c f ∙ h) n
+        get_or-set_other vs q p (word_of (content s q)) 0 f ∙ l.read p v (content_set_other s q p c f ∙ h) n
 
 -- what isn't needed may differ
 pub like_other : (u : Use) (keys : List Key) (vs : List ℕ) (s : Cells) (q : ℕ) (c : Option Value) → u.needed (name_at keys q) ≡ false → Like u keys vs (slice_set s q c) → Like u keys vs s
-like_other u keys vs s q c off l p v h n =
-    l p v (content_set_other s q p c (λ e. (let k : true ≡ false = sym n ∙ (ap (λ (m : ℕ). u.needed (name_at keys m)) e ∙ off) in cc)) ∙ h) n
+like_other u keys vs s q c off l = record {
+  read = λ p v h n. l.read p v (content_set_other s q p c (λ e. (let k : true ≡ false = sym n ∙ (ap (λ (m : ℕ). u.needed (name_at keys m)) e ∙ off) in cc)) ∙ h) n;
+  held = l.held;
+}
 
 -- ---- the run
 
@@ -287,7 +301,7 @@ restored_ran w u s x vs bs t ts fit p q sound k covered l wide long = by_push (w
           vs1 = slice_set vs q old;
           out = refl;
           cells = refl;
-          like = like_restored u w.site.keys vs s q x (let i = st.there in omega arith) l;
+          like = like_restored u w.site.keys vs s q x (let i = st.there in omega arith) (ap u.held st.named ∙ sound.unheld) l;
           wide = length-set vs q old ∙ wide;
           cover = cover_both w ts _ _ (one.cover (silent ts)) store_cover;
         }))

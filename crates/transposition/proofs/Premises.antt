@@ -1,5 +1,5 @@
 -- The premises of the law can be met: y = x*x.
-use Rattle.std.proofs.Common.{ℕ, List, [], ◌∷◌, refl, true, arith}
+use Rattle.std.proofs.Common.{ℕ, List, [], ◌∷◌, refl, true, arith, None}
 use Rattle.std.specs.Prelude.{codes}
 use Rattle.fl_ast.specs.declared.kind.Kind.TheVariants as kind
 use Rattle.fl_ast.specs.Tree.{Statements}
@@ -28,7 +28,7 @@ abbrev world : World
 world = record { site = site; shared = 2; active = λ z. true; choice = λ z. Shared; choices = λ k z. Shared }
 
 abbrev names : Use
-names = record { needed = λ z. true; live = λ z. true; moved = λ z. true }
+names = record { needed = λ z. true; live = λ z. true; moved = λ z. true; held = λ z. None }
 
 abbrev square : Statements
 square = only (set_to 4 (to y) (name x times name x))
@@ -40,7 +40,7 @@ sound : SoundAll world names square
 sound = (
   (
     record {
-      target = record { subscripts = λ e. tt; undone = λ e. tt; free = refl; pushed = λ e. refl; live = refl; ring = λ e. refl; summed = λ e. refl };
+      target = record { subscripts = λ e. tt; undone = λ e. tt; free = refl; unheld = refl; pushed = λ e. refl; live = refl; ring = λ e. refl; summed = λ e. refl };
       amounts = λ e. (record { factors = ((refl, tt), tt); subscripts = tt; live = refl }, (record { factors = ((refl, tt), tt); subscripts = tt; live = refl }, tt));
       quiet = λ e. ((λ h. (cc)), (λ h. (cc)));
       kinds = λ e. (tt, tt);
@@ -54,10 +54,10 @@ fits : Fits site cells
 fits = held_fits site site.keys cells refl
 
 like : Like names site.keys (5 ∷ 25 ∷ []) (word 5 ∷ word 25 ∷ [])
-like = held_words names site.keys (5 ∷ 25 ∷ []) (word 5 ∷ word 25 ∷ []) refl
+like = held_words names site.keys (5 ∷ 25 ∷ []) (word 5 ∷ word 25 ∷ []) refl (λ z. refl)
 
 small : AreWords (0 ∷ 1 ∷ [])
 small = all_small (0 ∷ 1 ∷ []) refl
 
 met : Answer world names square cells (5 ∷ 25 ∷ []) (0 ∷ 1 ∷ []) 0
-met = answered world names square cells (word 5 ∷ word 25 ∷ []) (5 ∷ 25 ∷ []) (0 ∷ 1 ∷ []) 0 (record { value = 5; tangent = 0 }) sound (tt, λ s h. tt) fits (omega arith) refl refl like refl refl small refl refl (λ p h k. cc)
+met = answered world names square cells (word 5 ∷ word 25 ∷ []) (5 ∷ 25 ∷ []) (0 ∷ 1 ∷ []) 0 (record { value = 5; tangent = 0 }) sound (λ z. refl) (tt, λ s h. tt) fits (omega arith) refl refl like refl refl small refl refl (λ p h k. cc)

@@ -125,7 +125,7 @@ read_got w u s vs bs t ts h x n ks (Some p) e = by_content (content s p) refl
 
     worth : (v : Value) → content s p ≡ Some v → value_from (kind_of w.site x) (slice_index vs p) ≡ flat_value v
     worth v f =
-        rw (h.like p v f (ap u.needed st.named ∙ n)) (decoded (kind_of w.site x) v (subst (λ (y : List ℕ). HasKind (kind_of w.site y) v) st.named (h.fit.kinds p v f)))
+        rw (h.like.read p v f (ap u.needed st.named ∙ n)) (decoded (kind_of w.site x) v (subst (λ (y : List ℕ). HasKind (kind_of w.site y) v) st.named (h.fit.kinds p v f)))
 
     by_access : (b : Bool) → w.site.accessed x ≡ b → (v : Value) → content s p ≡ Some v
         → Gets w ts c flat_value (play tree c) (seen b w.site p v).log (seen b w.site p v).out

@@ -1,5 +1,5 @@
 -- What a parallel loop's names meet, by its premises and by the classes of names.
-use Rattle.std.proofs.Common.{◌≡◌, ℕ, ◌<◌, ◌≤◌, List, [], ◌∷◌, refl, ap, sym, ◌∙◌, Bool, true, false, ◌||◌, Some, None}
+use Rattle.std.proofs.Common.{◌≡◌, ℕ, ◌<◌, ◌≤◌, List, [], ◌∷◌, length, refl, ap, sym, ◌∙◌, Bool, true, false, ◌||◌, Some, None}
 use Rattle.std.specs.Prelude.{bytes_eq, filter, if◌then◌else◌, nat_eq}
 use Rattle.std.proofs.lemmas.Bool.{and_parts}
 use Rattle.std.proofs.lemmas.Slice.Eq.{bytes_eq-Decides}
@@ -12,7 +12,7 @@ use Rattle.transposition.specs.Worlds.{World, name_at, in_iteration}
 use Rattle.transposition.specs.Back.{loop_variables, variables_of}
 use Rattle.transposition.specs.Law.{Use}
 use Rattle.transposition.specs.Calms.{IsFlat, AreFlat, AreFlatArms}
-use Rattle.transposition.specs.Sound.{AllOwn, AllSummed, privates_of, writes, writes_in, writes_in_arms, SoundRounds}
+use Rattle.transposition.specs.Sound.{IsHeld, AllOwn, AllSummed, privates_of, writes, writes_in, writes_in_arms, SoundRounds}
 
 -- what a parallel loop's names must meet; u inside is `inner`
 pub record RoundFacts (w : World) (u inner : Use) (number : ℕ) (directive : Directive) (var : List ℕ) (tree : Statements) : Type 0 where
@@ -21,18 +21,24 @@ pub record RoundFacts (w : World) (u inner : Use) (number : ℕ) (directive : Di
   pub whole : (x : List ℕ) → has_name x (loop_variables directive var tree) ≡ true → w.site.ring x ≡ false
   pub apart : (x : List ℕ) → has_name x (loop_variables directive var tree) ≡ true → has_name x (privates_of w directive var tree) ≡ false
   pub unvaried : (x : List ℕ) → has_name x (loop_variables directive var tree) ≡ true → writes_in x (iteration_body directive tree) ≡ false
+  pub unheld : (x : List ℕ) → has_name x (loop_variables directive var tree) ≡ true → u.held x ≡ None
   pub privates : AllOwn w (privates_of w directive var tree)
   -- what a private scalar's word is good for: set in an iteration, and pushed
   pub assigned : (x : List ℕ) → has_name x (privates_of w directive var tree) ≡ true → assigns_in x tree ≡ writes_in x (iteration_body directive tree)
-  pub pushed : (x : List ℕ) → has_name x (privates_of w directive var tree) ≡ true → inner.needed x ≡ true → w.site.pushed x ≡ true
+  pub pushed : (x : List ℕ) → has_name x (privates_of w directive var tree) ≡ true → inner.needed x ≡ true
+      → writes_in x (iteration_body directive tree) ≡ true → w.site.pushed x ≡ true
   -- names in scope inside and outside
   pub needed : (x : List ℕ) → inner.needed x ≡ true → has_name x (privates_of w directive var tree) ≡ false → has_name x (loop_variables directive var tree) ≡ false → u.needed x ≡ true
-  pub outside : (x : List ℕ) → u.needed x ≡ true → (inner.needed x ≡ true) × (has_name x (privates_of w directive var tree) ≡ false) × (has_name x (loop_variables directive var tree) ≡ false)
+  pub outside : (x : List ℕ) → u.needed x ≡ true → inner.needed x ≡ true
   pub live : (x : List ℕ) → has_name x (privates_of w directive var tree) ≡ false → inner.live x ≡ u.live x
   pub moved : (x : List ℕ) → inner.moved x ≡ u.moved x
-  -- what an iteration has of its own doesn't count outside, and the outer loops' variables stay
+  -- what an iteration has of its own doesn't count outside, and of its names the outer loops' variables alone are needed there
   pub dead : (p : ℕ) → w.shared ≤ p → u.live (name_at w.site.keys p) ≡ false
-  pub stays : (p : ℕ) → w.shared ≤ p → u.needed (name_at w.site.keys p) ≡ true → writes_in (name_at w.site.keys p) (iteration_body directive tree) ≡ false
+  pub stays : (p : ℕ) → w.shared ≤ p → p < length w.site.keys → u.needed (name_at w.site.keys p) ≡ true → IsHeld u (name_at w.site.keys p)
+  -- these may be private in the loop, and unset by its iterations; set they aren't
+  pub unset : (x : List ℕ) → IsHeld u x → writes_in x (iteration_body directive tree) ≡ false
+  pub low : (p : ℕ) → p < w.shared → u.held (name_at w.site.keys p) ≡ None
+  pub fresh : (x : List ℕ) → inner.held x ≡ None
   pub listed : (x : List ℕ) → has_name x (privates_of w directive var tree) ≡ true → has_name x directive.privates ≡ true
   -- in the loop each place's name makes touches, and outside none does
   pub inside : (p : ℕ) → p < w.shared → (in_iteration w number directive var tree).site.accessed (name_at w.site.keys p) ≡ true
@@ -152,6 +158,7 @@ round_facts w u inner number directive var tree flat h = record {
   whole = h.whole;
   apart = λ x e. no_private w directive var tree x e (has_name x (privates_of w directive var tree)) refl;
   unvaried = h.unvaried;
+  unheld = h.unheld;
   privates = h.privates;
   assigned = λ x e. set_body (is_nest directive tree) x tree (λ n. (and_parts (nat_eq directive.collapse 2) (is_one_loop tree) n).1) flat (is_private_name w directive var tree x e).fixed;
   pushed = h.pushed;
@@ -161,6 +168,9 @@ round_facts w u inner number directive var tree flat h = record {
   moved = h.moved;
   dead = h.dead;
   stays = h.stays;
+  unset = h.unset;
+  low = h.low;
+  fresh = h.fresh;
   listed = λ x e. (is_private_name w directive var tree x e).listed;
   inside = h.inside;
   silent = h.silent;

@@ -1,6 +1,6 @@
 -- What runs of statements keep.
-use Rattle.std.proofs.Common.{◌≡◌, ℕ, zero, suc, ◌<◌, List, [], refl, subst, arith, Bool, true, false, ◌||◌, Option, Some, None, Result, Ok, Err, ℤ, pos}
-use Rattle.std.specs.Prelude.{slice_set, bytes_eq, if◌then◌else◌, ◌+ℤ◌}
+use Rattle.std.proofs.Common.{◌≡◌, ℕ, zero, suc, ◌<◌, List, [], refl, subst, arith, Bool, true, false, ◌||◌, Option, Some, None, Result, Ok, Err, ℤ, pos, ap, sym, ◌∙◌, length}
+use Rattle.std.specs.Prelude.{slice_set, bytes_eq, if◌then◌else◌, ◌+ℤ◌, cond}
 use Rattle.ring_core.specs.Index.{IsIndex}
 use Rattle.fl_ast.specs.Tree.{Expression}
 use Rattle.meaning.specs.declared.value.Value.{Value}
@@ -9,11 +9,11 @@ use Rattle.meaning.specs.declared.value.Cause.{Cause}
 use Rattle.meaning.specs.declared.value.IterationCount.{IterationCount}
 use Rattle.meaning.specs.Values.{whole_number}
 use Rattle.meaning.specs.Logs.{Log, Traced, pure, lift, at_line, at_line_by, ◌>>=◌}
-use Rattle.meaning.specs.Sites.{Cells, Site, kind_of}
-use Rattle.meaning.specs.Expressions.{value_of}
+use Rattle.meaning.specs.Sites.{Cells, Site, kind_of, word_of}
+use Rattle.meaning.specs.Expressions.{value_of, content}
 use Rattle.meaning.specs.Statements.{Run, with_log, turns_by, step_value, turns_of, value_at, set_at, turns, one_turn}
 use Rattle.meaning.proofs.Parts.{bound}
-use Rattle.transposition.specs.Worlds.{World, in_turn}
+use Rattle.transposition.specs.Worlds.{World, in_turn, name_at}
 use Rattle.transposition.specs.Law.{Use, Fit}
 use Rattle.meaning.specs.Fitting.{HasKind}
 use Rattle.transposition.specs.Sound.{OptionLiterals, Literals, SoundVariable, scope_with}
@@ -25,6 +25,9 @@ use Rattle.store_core.specs.Bounds.{clipped}
 use Rattle.meaning.proofs.Variables.{variables_fit}
 use Rattle.meaning.specs.Sites.{in_turn as site_in_turn}
 use Rattle.transposition.proofs.Kept.{Keeps, keeps_itself, keeps_both, keeps_wider, keeps_set}
+use Rattle.std.specs.Int.{w64, cast_unsigned}
+use Rattle.std.proofs.lemmas.Slice.Eq.{bytes_eq-Decides}
+use Rattle.transposition.proofs.Places.{content_set_same}
 
 -- ---- parts of runs
 
@@ -73,11 +76,43 @@ turns_run w u s fit first last step q t h =
 
 -- ---- a turn
 
-pub fit_turn : (w : World) (u : Use) (var : List ℕ) (s : Cells) → Fit w u s → Fit (in_turn w var) (scope_with var u) s
-fit_turn w u var s h = record { long = h.long; room = h.room; kinds = h.kinds; still = h.still }
+-- a name that is held in a turn: the variable, or held outside
+pub held_in_turn : {P : Type 0} (var : List ℕ) (n : ℕ) (u : Use) (x : List ℕ) (m : ℕ) → (scope_with var n u).held x ≡ Some m → (x ≡ var → n ≡ m → P) → (bytes_eq x var ≡ false → u.held x ≡ Some m → P) → P
+held_in_turn {P} var n u x m h f g = by_name (bytes_eq x var) refl h
+  where
+    by_name : (b : Bool) → bytes_eq x var ≡ b → cond b (Some n) (u.held x) ≡ Some m → P
+    by_name true e k = let i : n ≡ m = cc in f ((bytes_eq-Decides x var).0 e) i
+    by_name false e k = g e k
 
-pub fit_outside : (w : World) (u : Use) (var : List ℕ) (s : Cells) → Fit (in_turn w var) (scope_with var u) s → Fit w u s
-fit_outside w u var s h = record { long = h.long; room = h.room; kinds = h.kinds; still = h.still }
+pub held_here : (var : List ℕ) (n : ℕ) (u : Use) (x : List ℕ) → x ≡ var → (scope_with var n u).held x ≡ Some n
+held_here var n u x e = ap (λ (b : Bool). cond b (Some n) (u.held x)) ((bytes_eq-Decides x var).1 e)
+
+pub held_there : (var : List ℕ) (n : ℕ) (u : Use) (x : List ℕ) (m : ℕ) → u.held var ≡ None → u.held x ≡ Some m → (scope_with var n u).held x ≡ Some m
+held_there var n u x m unheld h = by_name (bytes_eq x var) refl
+  where
+    by_name : (b : Bool) → bytes_eq x var ≡ b → cond b (Some n) (u.held x) ≡ Some m
+    by_name true e = let k : None ≡ Some m = sym unheld ∙ (ap u.held (sym ((bytes_eq-Decides x var).0 e)) ∙ h) in cc
+    by_name false e = h
+
+pub fit_turn : (w : World) (u : Use) (var : List ℕ) (first last : Expression) (step : Option Expression) (v : SoundVariable w u var first last step) (z : ℤ) (s : Cells) → length s ≡ length w.site.keys → Fit w u (slice_set s v.q (Some (Index z)))
+    → Fit (in_turn w var) (scope_with var (cast_unsigned w64 z) u) (slice_set s v.q (Some (Index z)))
+fit_turn w u var first last step v z s size h = record {
+  long = h.long;
+  room = h.room;
+  kinds = h.kinds;
+  still = h.still;
+  held = λ p m y e g. held_in_turn var (cast_unsigned w64 z) u (name_at w.site.keys p) m g (λ f i. here p y e f ∙ i) (λ f i. h.held p m y e i);
+}
+  where
+    here : (p : ℕ) (y : Value) → content (slice_set s v.q (Some (Index z))) p ≡ Some y → name_at w.site.keys p ≡ var → word_of (Some y) ≡ cast_unsigned w64 z
+    here p y e f =
+        let st = stands w.site.keys var [] v.q v.place in
+        let same : Some y ≡ Some (Index z) = sym e ∙ (ap (content (slice_set s v.q (Some (Index z)))) (v.only p f) ∙ content_set_same s v.q (Some (Index z)) (let i = st.there in omega arith)) in
+        ap word_of same
+
+pub fit_outside : (w : World) (u : Use) (var : List ℕ) (n : ℕ) (s : Cells) → u.held var ≡ None → Fit (in_turn w var) (scope_with var n u) s → Fit w u s
+fit_outside w u var n s unheld h =
+    record { long = h.long; room = h.room; kinds = h.kinds; still = h.still; held = λ p m y e g. h.held p m y e (held_there var n u (name_at w.site.keys p) m unheld g) }
 
 index_kind : (site : Site) (x : List ℕ) (z : ℤ) → site.ring x ≡ false → IsIndex z → HasKind (kind_of site x) (Index z)
 index_kind site x z h i = rw h i
@@ -85,7 +120,7 @@ index_kind site x z h i = rw h i
 pub variable_kept : (w : World) (u : Use) (var : List ℕ) (first last : Expression) (step : Option Expression) (s : Cells) (z : ℤ) → (k : SoundVariable w u var first last step) → Fit w u s → IsIndex z → Keeps w u (λ y. bytes_eq y var) s (slice_set s k.q (Some (Index z)))
 variable_kept w u var first last step s z k fit i =
     let st = stands w.site.keys var [] k.q k.place in
-    keeps_set w u s var k.q (Index z) fit st.named st.there (index_kind w.site var z k.whole i) (λ e. refl)
+    keeps_set w u s var k.q (Index z) fit st.named st.there (index_kind w.site var z k.whole i) (λ e. refl) k.unheld
 
 pub turn_index : (w : World) (s : Cells) (first last : Expression) (step : Option Expression) (t : IterationCount) (k : ℕ) → TurnsRun w.site s first last step t → k < t.count → IsIndex (value_at t k)
 turn_index w s first last step t k h i = variables_fit t.first t.last t.step k h.low h.high (subst (λ (n : ℕ). k < n) h.count i)

@@ -1,5 +1,5 @@
 -- The premises of the law can be met with a parallel loop: x(i) = x(i)*x(i).
-use Rattle.std.proofs.Common.{◌≡◌, ◌≢◌, ℕ, zero, suc, ◌<◌, ◌≤◌, ◌==◌, List, [], ◌∷◌, refl, ap, sym, ◌∙◌, subst, Bool, true, false, not, ◌&&◌, None, arith, inl, inr}
+use Rattle.std.proofs.Common.{◌≡◌, ◌≢◌, ℕ, zero, suc, ◌<◌, ◌≤◌, ◌==◌, List, [], ◌∷◌, refl, ap, sym, ◌∙◌, subst, Bool, true, false, not, ◌&&◌, None, arith, inl, inr, length, Some}
 use Rattle.std.specs.Prelude.{codes, slice_index, bytes_eq, ◌⊎◌}
 use Rattle.std.proofs.lemmas.Bool.{eqb-true, and_parts}
 use Rattle.ring_core.specs.Index.{exact_index}
@@ -16,10 +16,10 @@ use Rattle.meaning.proofs.Small.{declared, scalar, array, word, number, one, nam
 use Rattle.meaning.specs.Fitting.{Fits}
 use Rattle.transposition.specs.Worlds.{World, in_iteration, name_at}
 use Rattle.transposition.specs.Law.{Use, Like, HasTouch, Calm, AreWords}
-use Rattle.transposition.specs.Sound.{writes_in, SoundAll, SoundRounds, Own}
+use Rattle.transposition.specs.Sound.{writes_in, SoundAll, SoundRounds, Own, IsHeld}
 use Rattle.transposition.specs.Calms.{IsCalmAll, iteration_log}
 use Rattle.transposition.specs.Answer.{Answer}
-use Rattle.transposition.proofs.Meeting.{not_true, or_false, or_none, named, only_at, held_fits, held_words}
+use Rattle.transposition.proofs.Meeting.{or_false, named, only_at, held_fits, held_words}
 use Rattle.transposition.proofs.Words.{all_small}
 use Rattle.transposition.proofs.Transposed.{answered}
 
@@ -45,10 +45,10 @@ abbrev world : World
 world = record { site = site; shared = 3; active = λ z. bytes_eq z x; choice = λ z. Shared; choices = λ k z. Atomic }
 
 abbrev outer : Use
-outer = record { needed = λ z. not (bytes_eq z i); live = λ z. bytes_eq z x; moved = λ z. true }
+outer = record { needed = λ z. not (bytes_eq z i); live = λ z. bytes_eq z x; moved = λ z. true; held = λ z. None }
 
 abbrev inner : Use
-inner = record { needed = λ z. true; live = λ z. bytes_eq z x; moved = λ z. true }
+inner = record { needed = λ z. true; live = λ z. bytes_eq z x; moved = λ z. true; held = λ z. None }
 
 own_i : Own world i
 own_i = record { q = 3; place = refl; only = only_at i 3 site.keys refl; own = omega arith }
@@ -59,13 +59,17 @@ rounds_sound = record {
   whole = λ z h. named i z (λ y. site.ring y ≡ false) h refl;
   unvaried = λ z h. named i z (λ y. writes_in y body ≡ false) h refl;
   privates = tt;
-  pushed = λ z h k. refl;
+  unheld = λ z h. refl;
+  pushed = λ z h k i. refl;
   needed = λ z h k e. ap not (or_false (bytes_eq z i) e);
-  outside = λ z h. (refl, refl, or_none (bytes_eq z i) (not_true (bytes_eq z i) h));
+  outside = λ z h. refl;
   live = λ z h. refl;
   moved = λ z. refl;
   dead = dead;
   stays = stays;
+  unset = λ z h. (let e : None ≡ Some h.0 = h.1 in cc);
+  low = λ p h. refl;
+  fresh = λ z. refl;
   inside = inside;
   silent = λ z. refl;
   summed = ((λ h. cc), ((λ h. cc), ((λ h. cc), tt)));
@@ -78,12 +82,12 @@ rounds_sound = record {
     dead (suc (suc (suc zero))) h = refl
     dead (suc (suc (suc (suc p)))) h = refl
 
-    stays : (p : ℕ) → 3 ≤ p → not (bytes_eq (name_at site.keys p) i) ≡ true → writes_in (name_at site.keys p) body ≡ false
-    stays zero h k = absurd (omega arith)
-    stays (suc zero) h k = absurd (omega arith)
-    stays (suc (suc zero)) h k = absurd (omega arith)
-    stays (suc (suc (suc zero))) h k = refl
-    stays (suc (suc (suc (suc p)))) h k = refl
+    stays : (p : ℕ) → 3 ≤ p → p < length site.keys → not (bytes_eq (name_at site.keys p) i) ≡ true → IsHeld outer (name_at site.keys p)
+    stays zero h j k = absurd (omega arith)
+    stays (suc zero) h j k = absurd (omega arith)
+    stays (suc (suc zero)) h j k = absurd (omega arith)
+    stays (suc (suc (suc zero))) h j k = cc
+    stays (suc (suc (suc (suc p)))) h j k = absurd (omega arith)
 
     inside : (p : ℕ) → p < 3 → (in_iteration world 1 clauses i body).site.accessed (name_at site.keys p) ≡ true
     inside zero h = refl
@@ -101,7 +105,7 @@ sound = (
     ((
       (
         record {
-          target = record { subscripts = λ e. ((refl, tt), tt); undone = λ e. ((refl, tt), tt); free = refl; pushed = λ e. refl; live = refl; ring = λ e. refl; summed = λ e. refl };
+          target = record { subscripts = λ e. ((refl, tt), tt); undone = λ e. ((refl, tt), tt); free = refl; unheld = refl; pushed = λ e. refl; live = refl; ring = λ e. refl; summed = λ e. refl };
           amounts = λ e. (record { factors = ((refl, ((refl, tt), tt)), tt); subscripts = ((refl, tt), tt); live = refl }, (record { factors = ((refl, ((refl, tt), tt)), tt); subscripts = ((refl, tt), tt); live = refl }, tt));
           quiet = λ e. ((λ h. cc), (λ h. cc));
           kinds = λ e. (tt, tt);
@@ -172,14 +176,14 @@ fits : Fits site cells
 fits = held_fits site site.keys cells refl
 
 like : Like outer site.keys (2 ∷ 9 ∷ 25 ∷ 0 ∷ []) (number 2 ∷ word 9 ∷ word 25 ∷ number 2 ∷ [])
-like = held_words outer site.keys (2 ∷ 9 ∷ 25 ∷ 0 ∷ []) (number 2 ∷ word 9 ∷ word 25 ∷ number 2 ∷ []) refl
+like = held_words outer site.keys (2 ∷ 9 ∷ 25 ∷ 0 ∷ []) (number 2 ∷ word 9 ∷ word 25 ∷ number 2 ∷ []) refl (λ z. refl)
 
 small : AreWords (0 ∷ 1 ∷ 10 ∷ 0 ∷ [])
 small = all_small (0 ∷ 1 ∷ 10 ∷ 0 ∷ []) refl
 
 met : Answer world outer squares cells (2 ∷ 9 ∷ 25 ∷ 0 ∷ []) (0 ∷ 1 ∷ 10 ∷ 0 ∷ []) 1
 unfolding exact_index
-met = answered world outer squares cells (number 2 ∷ word 9 ∷ word 25 ∷ number 2 ∷ []) (2 ∷ 9 ∷ 25 ∷ 0 ∷ []) (0 ∷ 1 ∷ 10 ∷ 0 ∷ []) 1 (record { value = 3; tangent = 0 }) sound calm fits (omega arith) refl refl like refl refl small refl refl dead_seed
+met = answered world outer squares cells (number 2 ∷ word 9 ∷ word 25 ∷ number 2 ∷ []) (2 ∷ 9 ∷ 25 ∷ 0 ∷ []) (0 ∷ 1 ∷ 10 ∷ 0 ∷ []) 1 (record { value = 3; tangent = 0 }) sound (λ z. refl) calm fits (omega arith) refl refl like refl refl small refl refl dead_seed
   where
     dead_seed : (p : ℕ) → bytes_eq (name_at site.keys p) x ≡ false → true ≡ true → slice_index (0 ∷ 1 ∷ 10 ∷ 0 ∷ []) p ≡ 0
     dead_seed zero h k = refl

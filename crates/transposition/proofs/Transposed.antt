@@ -93,10 +93,13 @@ some_of None (Ring d) e = cc
 some_of (Some y) v e = (y, refl)
 
 like_along : (u : Use) (keys : List Key) (vs : List ℕ) (s t : Cells) → cells_along [] s ≡ cells_along [] t → Like u keys vs s → Like u keys vs t
-like_along u keys vs s t e l p v h n =
-    let same : with_tangent 0 (content s p) ≡ with_tangent 0 (Some v) = sym (content_along s p) ∙ (ap (λ (c : Cells). content c p) e ∙ (content_along t p ∙ ap (with_tangent 0) h)) in
-    let y = some_of (content s p) v same in
-    l p y.0 y.1 n ∙ pointed_some (content s p) v same y.0 y.1
+like_along u keys vs s t e l = record { read = read; held = l.held }
+  where
+    read : (p : ℕ) (v : Value) → content t p ≡ Some v → u.needed (name_at keys p) ≡ true → slice_index vs p ≡ word_of (Some v)
+    read p v h n =
+        let same : with_tangent 0 (content s p) ≡ with_tangent 0 (Some v) = sym (content_along s p) ∙ (ap (λ (c : Cells). content c p) e ∙ (content_along t p ∙ ap (with_tangent 0) h)) in
+        let y = some_of (content s p) v same in
+        l.read p y.0 y.1 n ∙ pointed_some (content s p) v same y.0 y.1
 
 pub along_along : (ts : List ℕ) (s : Cells) → cells_along [] (cells_along ts s) ≡ cells_along [] s
 along_along ts [] = refl
@@ -142,9 +145,9 @@ unfolding big
 exact a b h k e = omega arith
 
 pub answered : ReverseIsTransposed
-answered w u xs s s2 vs seed j d sound calm fits room moved h like wide long small ring alive dead =
+answered w u xs s s2 vs seed j d sound unheld calm fits room moved h like wide long small ring alive dead =
     let sj = cells_along (unit j) s in
-    let fit = unit_fit w u s j fits room moved in
+    let fit = unit_fit w u s j fits room moved unheld in
     let unseen = tangents_are_unseen xs w.site s sj (sym (along_along (unit j) s)) in
     let t = turned (run_all xs w.site sj).out (run_all xs w.site s).out s2 h unseen.1 in
     let kept = kept_all xs w u sj t.s3 fit sound t.out in

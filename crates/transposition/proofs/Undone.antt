@@ -23,7 +23,7 @@ use Rattle.meaning.proofs.Parts.{bound}
 use Rattle.transposition.specs.Worlds.{World, name_at, in_turn}
 use Rattle.transposition.specs.Law.{Use, Fit, Like, Within, flat, local, Ends, Undoes}
 use Rattle.transposition.specs.Sound.{SoundVariable, SoundAssigned, scope_with}
-use Rattle.transposition.proofs.Keys.{stands}
+use Rattle.transposition.proofs.Keys.{Stands, stands}
 use Rattle.transposition.proofs.Places.{content_set_other}
 use Rattle.transposition.proofs.Plain.{plain_undone, tangents_off}
 use Rattle.transposition.proofs.Increments.{increment_undone}
@@ -47,7 +47,7 @@ use Rattle.transposition.proofs.Split.{own_value_set, cells_kept}
 use Rattle.transposition.proofs.Flats.{read_back}
 use Rattle.transposition.proofs.Reading.{cover_both}
 use Rattle.transposition.proofs.Taping.{Wordless, wordless_bind, wordless}
-use Rattle.transposition.proofs.Runs.{turns_kept}
+use Rattle.transposition.proofs.Runs.{held_in_turn, held_there, turns_kept}
 
 pub undone_both : (w : World) (u : Use) (ts : Log) (f g : Local → Tree Local) (t t1 t2 : Tape) (s s1 s2 : Cells) → Undoes w u ts f t t1 s s1 → Undoes w u ts g t1 t2 s1 s2 → Undoes w u ts (λ l. and_then (g l) f) t t2 s s2
 undone_both w u ts f g t t1 t2 s s1 s2 h k vs bs l wide long small =
@@ -158,21 +158,25 @@ turns_undone w u ts test (suc n) f g keep step s s2 t fit ins h =
     undone_tape w u ts (turns_back (suc n) g) t _ _ s s2 (ap (λ (l : Log). tape_after l t) (sym b.log)) (undone_both w u ts (turns_back n g) (g n) t (tape_after (turns n f s).log t) _ s b.value s2 first second)
 
 -- the variable's word, set again in a turn
-variable_like : (w : World) (u : Use) (var : List ℕ) (first last : Expression) (step : Option Expression) (v : SoundVariable w u var first last step) (z : ℤ) (vs : List ℕ) (s2 : Cells) → v.q < length vs → content s2 v.q ≡ Some (Index z)
-    → Like u w.site.keys vs s2 → Like (scope_with var u) w.site.keys (slice_set vs v.q (cast_unsigned w64 z)) s2
-variable_like w u var first last step v z vs s2 there held l p y h n = by_place (p == v.q) refl
+variable_like : (w : World) (u : Use) (var : List ℕ) (first last : Expression) (step : Option Expression) (v : SoundVariable w u var first last step) (x : ℕ) (vs : List ℕ) (s2 : Cells) → v.q < length vs → ((y : Value) → content s2 v.q ≡ Some y → word_of (Some y) ≡ x)
+    → Like u w.site.keys vs s2 → Like (scope_with var x u) w.site.keys (slice_set vs v.q x) s2
+variable_like w u var first last step v x vs s2 there held l = record {
+  read = λ p y h n. by_place p y h n (p == v.q) refl;
+  held = λ p m g. held_in_turn var x u (name_at w.site.keys p) m g
+      (λ e i. ap (λ (j : ℕ). slice_index (slice_set vs v.q x) j) (v.only p e) ∙ (get_or-set_same vs v.q x 0 there ∙ i))
+      (λ e i. get_or-set_other vs v.q p x 0 (λ k. (let f : true ≡ false = sym ((bytes_eq-Decides (name_at w.site.keys p) var).1 (ap (name_at w.site.keys) k ∙ st.named)) ∙ e in cc)) ∙ l.held p m i);
+}
   where
-    x : ℕ
-    x = cast_unsigned w64 z
+    st : Stands w.site.keys var v.q
+    st = stands w.site.keys var [] v.q v.place
 
-    by_place : (b : Bool) → (p == v.q) ≡ b → slice_index (slice_set vs v.q x) p ≡ word_of (Some y)
-    by_place true e =
+    by_place : (p : ℕ) (y : Value) → content s2 p ≡ Some y → (scope_with var x u).needed (name_at w.site.keys p) ≡ true → (b : Bool) → (p == v.q) ≡ b → slice_index (slice_set vs v.q x) p ≡ word_of (Some y)
+    by_place p y h n true e =
         let f : p ≡ v.q = eqb-true p v.q e in
-        let same : Some (Index z) ≡ Some y = sym held ∙ (ap (content s2) (sym f) ∙ h) in
-        ap (λ (m : ℕ). slice_index (slice_set vs v.q x) m) f ∙ (get_or-set_same vs v.q x 0 there ∙ ap word_of same)
-    by_place false e =
+        ap (λ (m : ℕ). slice_index (slice_set vs v.q x) m) f ∙ (get_or-set_same vs v.q x 0 there ∙ sym (held y (ap (content s2) (sym f) ∙ h)))
+    by_place p y h n false e =
         let f : p ≢ v.q = λ g. (let k : true ≡ false = sym (eq-eqb p v.q g) ∙ e in cc) in
-        get_or-set_other vs v.q p x 0 f ∙ l p y h (needed_by (u.needed (name_at w.site.keys p)) (bytes_eq (name_at w.site.keys p) var) refl n f)
+        get_or-set_other vs v.q p x 0 f ∙ l.read p y h (needed_by (u.needed (name_at w.site.keys p)) (bytes_eq (name_at w.site.keys p) var) refl n f)
       where
         needed_by : (a b : Bool) → bytes_eq (name_at w.site.keys p) var ≡ b → (a || b) ≡ true → p ≢ v.q → a ≡ true
         needed_by true b g i f = refl
@@ -180,21 +184,24 @@ variable_like w u var first last step v z vs s2 there held l p y h n = by_place 
         needed_by false false g i f = cc
 
 -- out of scope again
-like_outside : (w : World) (u : Use) (var : List ℕ) (first last : Expression) (step : Option Expression) (v : SoundVariable w u var first last step) (c : Option Value) (vs : List ℕ) (s : Cells) → Like (scope_with var u) w.site.keys vs (slice_set s v.q c) → Like u w.site.keys vs s
-like_outside w u var first last step v c vs s l p y h n =
+like_outside : (w : World) (u : Use) (var : List ℕ) (first last : Expression) (step : Option Expression) (v : SoundVariable w u var first last step) (x : ℕ) (c : Option Value) (vs : List ℕ) (s : Cells) → Like (scope_with var x u) w.site.keys vs (slice_set s v.q c) → Like u w.site.keys vs s
+like_outside w u var first last step v x c vs s l =
     let st = stands w.site.keys var [] v.q v.place in
-    l p y (content_set_other s v.q p c (λ e. (let k : true ≡ false = sym n ∙ (ap u.needed (ap (name_at w.site.keys) e ∙ st.named) ∙ v.unneeded) in cc)) ∙ h) (rw n refl)
+    record {
+      read = λ p y h n. l.read p y (content_set_other s v.q p c (λ e. (let k : true ≡ false = sym n ∙ (ap u.needed (ap (name_at w.site.keys) e ∙ st.named) ∙ v.unneeded) in cc)) ∙ h) (rw n refl);
+      held = λ p m g. l.held p m (held_there var x u (name_at w.site.keys p) m v.unheld g);
+    }
 
 pub turn_undone : (w : World) (u : Use) (ts : Log) (var : List ℕ) (first last : Expression) (step : Option Expression) (v : SoundVariable w u var first last step) (b : IterationCount) (k : ℕ) (body : World → Local → Tree Local) (t t2 : Tape) (s s2 : Cells)
     → length s ≡ length w.site.keys → (let z : ℤ = value_at b k in
-    (content s2 v.q ≡ Some (Index z)) × Undoes (in_turn w var) (scope_with var u) ts (body (in_turn w var)) t t2 (slice_set s v.q (Some (Index z))) s2)
+    ((y : Value) → content s2 v.q ≡ Some y → word_of (Some y) ≡ cast_unsigned w64 z) × Undoes (in_turn w var) (scope_with var (cast_unsigned w64 z) u) ts (body (in_turn w var)) t t2 (slice_set s v.q (Some (Index z))) s2)
     → Undoes w u ts (one_turn_back w var b body k) t t2 s s2
 turn_undone w u ts var first last step v b k body t t2 s s2 size h vs bs l wide long small =
     let z : ℤ = value_at b k in
     let x : ℕ = cast_unsigned w64 z in
     let st = stands w.site.keys var [] v.q v.place in
     let vs1 : List ℕ = slice_set vs v.q x in
-    let a = h.1 vs1 bs (variable_like w u var first last step v z vs s2 (let i = st.there in omega arith) h.0 l) (length-set vs v.q x ∙ wide) long small in
+    let a = h.1 vs1 bs (variable_like w u var first last step v x vs s2 (let i = st.there in omega arith) h.0 l) (length-set vs v.q x ∙ wide) long small in
     let same-local : variable_set w var b k (local w.shared t2 vs bs) ≡ local w.shared t2 vs1 bs =
     own_value_set w (place_of w.site var []) v.q x t2 vs bs v.place v.own in
     let same-cells : flat w.shared vs bs ≡ flat w.shared vs1 bs = ap (λ (c : List ℕ). c ++ take w.shared bs) (cells_kept w.shared v.q x vs v.own) in
@@ -203,7 +210,7 @@ turn_undone w u ts var first last step v b k body t t2 s s2 size h vs bs l wide 
       bs2 = a.bs2;
       out = a.out;
       cells = a.cells;
-      like = like_outside w u var first last step v (Some (Index z)) a.vs2 s a.like;
+      like = like_outside w u var first last step v x (Some (Index z)) a.vs2 s a.like;
       wide = a.wide;
       long = a.long;
       words = a.words;

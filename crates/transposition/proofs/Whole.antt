@@ -11,16 +11,15 @@ use Rattle.meaning.specs.declared.value.Value.TheVariants.{Index}
 use Rattle.meaning.specs.declared.value.TrapAt.{TrapAt}
 use Rattle.meaning.specs.declared.value.IterationCount.{IterationCount}
 use Rattle.meaning.specs.Logs.{Log, Traced, inside, at_line, condition, ◌>>=◌}
-use Rattle.meaning.specs.Sites.{Cells, Site, place_of}
+use Rattle.meaning.specs.Sites.{Cells, Site, place_of, word_of}
 use Rattle.meaning.specs.Expressions.{content, holds}
 use Rattle.meaning.specs.Statements.{Run, with_log, assignment_by, turns_of, value_at, set_at, turns, loop_words, one_turn, run_turns, Heads, iterations, words_of_all, heads_of, run_parallel, choice, in_arm, run, run_all, run_inner, run_arms}
 use Rattle.meaning.proofs.Parts.{bound}
-use Rattle.transposition.specs.Worlds.{World, in_turn, in_iteration}
+use Rattle.transposition.specs.Worlds.{World, in_turn, in_iteration, name_at}
 use Rattle.transposition.specs.Law.{Use, Fit, Within, Undoes}
 use Rattle.transposition.specs.Sound.{scope_with, writes, writes_in, writes_in_arms, arm_count, Sound, SoundAll, SoundArms, SoundInner, SoundWithin}
 use Rattle.transposition.proofs.RoundFacts.{round_facts}
 use Rattle.transposition.proofs.Keys.{stands}
-use Rattle.transposition.proofs.Places.{content_set_same}
 use Rattle.std.specs.Prelude.{int_div, ◌-ℤ◌}
 use Rattle.store_core.specs.Bounds.{clipped}
 use Rattle.meaning.proofs.Variables.{variables_fit}
@@ -33,7 +32,7 @@ use Rattle.transposition.specs.Tapes.{Tape, word, tape_after, iteration_tapes}
 use Rattle.transposition.specs.Worlds.{Local}
 use Rattle.transposition.specs.Back.{assignment_back, turns_back, one_turn_back, loop_back, parallel_back, back, back_all}
 use Rattle.transposition.proofs.Taping.{wordless_holds}
-use Rattle.transposition.proofs.Runs.{lined, turns_run, fit_turn, fit_outside, variable_kept, turn_index, turn_out, noted_out, turns_kept}
+use Rattle.transposition.proofs.Runs.{lined, turns_run, held_here, fit_turn, fit_outside, variable_kept, turn_index, turn_out, noted_out, turns_kept}
 use Rattle.fl_types.specs.Sharing.{has_name}
 use Rattle.std.specs.Prelude.{cond}
 use Rattle.transposition.specs.Calms.{IsCalm, IsCalmAll, IsCalmArms, IsFlat, AreFlat, AreFlatArms}
@@ -105,8 +104,9 @@ mutual
       (λ k i s s2 fit h.
       let o = turn_out w u var first last step b.value (run_all body) k s sound.0 s2 h in
       let m = variable_kept w u var first last step s (value_at b.value k) sound.0 fit (turn_index w s first last step b.value k (record { low = t.low; high = t.high; by = t.by; count = t.count }) i) in
-      let d = kept_all body (in_turn w var) (scope_with var u) (slice_set s sound.0.q (Some (Index (value_at b.value k)))) s2 (fit_turn w u var _ m.fit) sound.2 o in
-      keeps_both w u (λ y. bytes_eq y var) (λ y. writes_in y body) s (slice_set s sound.0.q (Some (Index (value_at b.value k)))) s2 m (record { fit = fit_outside w u var s2 d.fit; same = d.same }))
+      let n = cast_unsigned w64 (value_at b.value k) in
+      let d = kept_all body (in_turn w var) (scope_with var n u) (slice_set s sound.0.q (Some (Index (value_at b.value k)))) s2 (fit_turn w u var first last step sound.0 (value_at b.value k) s fit.long m.fit) (sound.1 n) o in
+      keeps_both w u (λ y. bytes_eq y var) (λ y. writes_in y body) s (slice_set s sound.0.q (Some (Index (value_at b.value k)))) s2 m (record { fit = fit_outside w u var n s2 sound.0.unheld d.fit; same = d.same }))
       s c.value fit c.first)
   kept (loop line number (Some directive) var first last step body) w u s s2 fit sound h =
       let d : Head = record { line = line; var = var; first = first; last = last; step = step } in
@@ -198,17 +198,18 @@ mutual
 
 -- a turn, with what is known of its body
 turn_kept : (line number : ℕ) (var : List ℕ) (first last : Expression) (step : Option Expression) (body : Statements) (w : World) (u : Use) (s s2 : Cells) (t : IterationCount) (k : ℕ) → k < t.count → Fit w u s → Sound w u (loop line number None var first last step body)
-    → IsIndex t.first → IsIndex t.last → t.count ≡ clipped (int_div ((t.last -ℤ t.first) +ℤ t.step) t.step) → (one_turn w.site var t (run_all body) k s).out ≡ Ok s2 → KeptBody (in_turn w var) (scope_with var u) body → Keeps w u (λ y. bytes_eq y var || writes_in y body) s s2
+    → IsIndex t.first → IsIndex t.last → t.count ≡ clipped (int_div ((t.last -ℤ t.first) +ℤ t.step) t.step) → (one_turn w.site var t (run_all body) k s).out ≡ Ok s2 → ((n : ℕ) → KeptBody (in_turn w var) (scope_with var n u) body) → Keeps w u (λ y. bytes_eq y var || writes_in y body) s s2
 turn_kept line number var first last step body w u s s2 t k i fit sound low high count h keeping =
     let o = turn_out w u var first last step t (run_all body) k s sound.0 s2 h in
     let z : IsIndex (value_at t k) = variables_fit t.first t.last t.step k low high (subst (λ (n : ℕ). k < n) count i) in
     let m = variable_kept w u var first last step s (value_at t k) sound.0 fit z in
-    let d = keeping (slice_set s sound.0.q (Some (Index (value_at t k)))) s2 (fit_turn w u var _ m.fit) o in
-    keeps_both w u (λ y. bytes_eq y var) (λ y. writes_in y body) s (slice_set s sound.0.q (Some (Index (value_at t k)))) s2 m (record { fit = fit_outside w u var s2 d.fit; same = d.same })
+    let n = cast_unsigned w64 (value_at t k) in
+    let d = keeping n (slice_set s sound.0.q (Some (Index (value_at t k)))) s2 (fit_turn w u var first last step sound.0 (value_at t k) s fit.long m.fit) o in
+    keeps_both w u (λ y. bytes_eq y var) (λ y. writes_in y body) s (slice_set s sound.0.q (Some (Index (value_at t k)))) s2 m (record { fit = fit_outside w u var n s2 sound.0.unheld d.fit; same = d.same })
 
 turn_step : (line number : ℕ) (var : List ℕ) (first last : Expression) (step : Option Expression) (body : Statements) (w : World) (u : Use) (ts : Log) (s s2 : Cells) (t : Tape) (tr : IterationCount) (k : ℕ) → k < tr.count → Fit w u s → Sound w u (loop line number None var first last step body)
     → IsIndex tr.first → IsIndex tr.last → tr.count ≡ clipped (int_div ((tr.last -ℤ tr.first) +ℤ tr.step) tr.step) → Within w.active (one_turn w.site var tr (run_all body) k s).log ts → (one_turn w.site var tr (run_all body) k s).out ≡ Ok s2
-    → KeptBody (in_turn w var) (scope_with var u) body → ((q : ℕ) → place_of w.site var [] ≡ Some q → UndoneBody (in_turn w var) (scope_with var u) body (slice_set s q (Some (Index (value_at tr k)))))
+    → ((n : ℕ) → KeptBody (in_turn w var) (scope_with var n u) body) → ((n q : ℕ) → place_of w.site var [] ≡ Some q → UndoneBody (in_turn w var) (scope_with var n u) body (slice_set s q (Some (Index (value_at tr k)))))
     → Undoes w u ts (one_turn_back w var tr (back_all body) k) t (tape_after (one_turn w.site var tr (run_all body) k s).log t) s s2
 turn_step line number var first last step body w u ts s s2 t tr k i fit sound low high count ins h keeping under =
     let v = sound.0 in
@@ -218,14 +219,15 @@ turn_step line number var first last step body w u ts s s2 t tr k i fit sound lo
     let o = turn_out w u var first last step tr (run_all body) k s v s2 h in
     let iz : IsIndex z = variables_fit tr.first tr.last tr.step k low high (subst (λ (n : ℕ). k < n) count i) in
     let m = variable_kept w u var first last step s z v fit iz in
-    let fit1 = fit_turn w u var s1 m.fit in
-    let d = keeping s1 s2 fit1 o in
+    let n : ℕ = cast_unsigned w64 z in
+    let fit1 = fit_turn w u var first last step v z s fit.long m.fit in
+    let d = keeping n s1 s2 fit1 o in
     let told : Within w.active (turn_told (run_all body) w.site var z s (Some v.q)).log ts = subst (λ (x : Option ℕ). Within w.active (turn_told (run_all body) w.site var z s x).log ts) v.place (record { touches = ins.touches; differentiated = ins.differentiated }) in
     let in-body : Within w.active (run_all body (site_in_turn w.site var) s1).log ts = record { touches = λ a p j. told.touches a p (inr j); differentiated = λ p j. told.differentiated p (inr j) } in
-    let held : content s2 v.q ≡ Some (Index z) = d.same v.q (ap (λ (y : List ℕ). writes_in y body) st.named ∙ sound.1) ∙ content_set_same s v.q (Some (Index z)) (let j = st.there in let g = fit.long in omega arith) in
+    let held : (y : Value) → content s2 v.q ≡ Some y → word_of (Some y) ≡ n = λ y e. d.fit.held v.q n y e (held_here var n u (name_at w.site.keys v.q) st.named) in
     undone_tape w u ts (one_turn_back w var tr (back_all body) k) t (tape_after (run_all body (site_in_turn w.site var) s1).log t) _ s s2
     (ap (λ (x : Option ℕ). tape_after (turn_told (run_all body) w.site var z s x).log t) (sym v.place))
-    (turn_undone w u ts var first last step v tr k (back_all body) t _ s s2 fit.long (held, under v.q v.place ts s2 t fit1 in-body o))
+    (turn_undone w u ts var first last step v tr k (back_all body) t _ s s2 fit.long (held, under n v.q v.place ts s2 t fit1 in-body o))
 
 -- ---- statements
 
@@ -253,9 +255,9 @@ mutual
       let tape = tape_after (turns n f s).log t in
       let turned : Undoes w u ts (turns_back n (one_turn_back w var b.value (back_all body))) t tape s c.value =
       turns_undone_from w u ts (λ y. bytes_eq y var || writes_in y body) n f (one_turn_back w var b.value (back_all body)) s
-      (λ k i s s2 fit h. turn_kept line number var first last step body w u s s2 b.value k i fit sound tr.low tr.high tr.count h (λ s s2 fit h. kept_all body (in_turn w var) (scope_with var u) s s2 fit sound.2 h))
-      (λ k i s1 s2 t met fit ins h. turn_step line number var first last step body w u ts s1 s2 t b.value k i fit sound tr.low tr.high tr.count ins h (λ s s2 fit h. kept_all body (in_turn w var) (scope_with var u) s s2 fit sound.2 h)
-      (λ q pl ts s2 t fit ins h. undone_all body (in_turn w var) (scope_with var u) ts _ s2 t fit sound.2 (calm_at body (in_turn w var) _ _ s1 pl (calm b.value l.out k i s1 met)) ins h))
+      (λ k i s s2 fit h. turn_kept line number var first last step body w u s s2 b.value k i fit sound tr.low tr.high tr.count h (λ n s s2 fit h. kept_all body (in_turn w var) (scope_with var n u) s s2 fit (sound.1 n) h))
+      (λ k i s1 s2 t met fit ins h. turn_step line number var first last step body w u ts s1 s2 t b.value k i fit sound tr.low tr.high tr.count ins h (λ n s s2 fit h. kept_all body (in_turn w var) (scope_with var n u) s s2 fit (sound.1 n) h)
+      (λ n q pl ts s2 t fit ins h. undone_all body (in_turn w var) (scope_with var n u) ts _ s2 t fit (sound.1 n) (calm_at body (in_turn w var) _ _ s1 pl (calm b.value l.out k i s1 met)) ins h))
       c.value t fit in-turns c.first in
       let counted : Undoes w u ts (turns_back n (one_turn_back w var b.value (back_all body))) t tape s s2 =
       subst (λ (x : Cells). Undoes w u ts (turns_back n (one_turn_back w var b.value (back_all body))) t tape s x) e turned in

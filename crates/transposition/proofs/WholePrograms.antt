@@ -21,8 +21,8 @@ use Rattle.transposition.proofs.Passing.{unstopped}
 use Rattle.transposition.proofs.Transposed.{along_along, Turned, turned, answered}
 
 pub program_transposed : ProgramIsTransposed
-program_transposed p shapes pushed active choices u limits words vs seed s2 j d sound shared small-words h e like wide long small dead there ring alive moved =
-    (answered w u p.body s s2 vs seed j d sound calm fits room moved h like wide long small ring alive dead).cell there ∙ same-adjoint
+program_transposed p shapes pushed active choices u limits words vs seed s2 j d sound unheld shared small-words h e like wide long small dead there ring alive moved =
+    (answered w u p.body s s2 vs seed j d sound unheld calm fits room moved h like wide long small ring alive dead).cell there ∙ same-adjoint
   where
     fits : Fits (entry_site p shapes pushed) (entry_cells p shapes words)
     fits = (directions_fit (entry_site p shapes pushed) (entry_cells p shapes words) []).1 (entries_fit p shapes pushed words [] small-words)

@@ -1,6 +1,6 @@
 -- The premises of the law can be met with two loops collapsed:
 --   do i = 1, n, collapsed with do j = 1, 2: y(i,j) = x(i)*x(j)
-use Rattle.std.proofs.Common.{◌≡◌, ℕ, zero, suc, ◌<◌, ◌≤◌, List, [], ◌∷◌, refl, true, false, not, ◌||◌, None, arith, pos}
+use Rattle.std.proofs.Common.{◌≡◌, ℕ, zero, suc, ◌<◌, ◌≤◌, List, [], ◌∷◌, refl, true, false, not, ◌||◌, None, arith, pos, length, Some}
 use Rattle.std.specs.Prelude.{codes, slice_index, bytes_eq}
 use Rattle.ring_core.specs.Index.{exact_index}
 use Rattle.fl_ast.specs.declared.kind.Kind.TheVariants as kind
@@ -15,11 +15,11 @@ use Rattle.meaning.proofs.Small.{declared, scalar, array, word, number, one, nam
 use Rattle.meaning.specs.Fitting.{Fits}
 use Rattle.transposition.specs.Worlds.{World, in_iteration, name_at}
 use Rattle.transposition.specs.Law.{Use, SharedApart}
-use Rattle.transposition.specs.Sound.{writes_in, SoundAll, SoundRounds, Own}
+use Rattle.transposition.specs.Sound.{writes_in, SoundAll, SoundRounds, Own, IsHeld}
 use Rattle.transposition.specs.Calms.{PairwiseAll, IsCalmAll}
 use Rattle.transposition.specs.Answer.{Answer}
 use Rattle.transposition.proofs.Words.{all_small}
-use Rattle.transposition.proofs.Meeting.{named_two, neither, both_off, held_fits, held_words, only_at}
+use Rattle.transposition.proofs.Meeting.{named_two, neither, held_fits, held_words, only_at}
 use Rattle.transposition.proofs.Passing.{unstopped}
 use Rattle.transposition.proofs.Transposed.{answered}
 
@@ -63,10 +63,10 @@ abbrev world : World
 world = record { site = site; shared = 7; active = λ z. bytes_eq z x || bytes_eq z y; choice = λ z. Shared; choices = λ k z. Atomic }
 
 abbrev outer : Use
-outer = record { needed = λ z. not (bytes_eq z i || bytes_eq z j); live = λ z. bytes_eq z x || bytes_eq z y; moved = λ z. true }
+outer = record { needed = λ z. not (bytes_eq z i || bytes_eq z j); live = λ z. bytes_eq z x || bytes_eq z y; moved = λ z. true; held = λ z. None }
 
 abbrev inner : Use
-inner = record { needed = λ z. true; live = λ z. bytes_eq z x || bytes_eq z y; moved = λ z. true }
+inner = record { needed = λ z. true; live = λ z. bytes_eq z x || bytes_eq z y; moved = λ z. true; held = λ z. None }
 
 abbrev inside_world : World
 inside_world = in_iteration world 1 two i body
@@ -83,13 +83,17 @@ rounds_sound = record {
   whole = λ z h. named_two i j z (λ t. site.ring t ≡ false) h refl refl;
   unvaried = λ z h. named_two i j z (λ t. writes_in t each ≡ false) h refl refl;
   privates = tt;
-  pushed = λ z h k. refl;
+  unheld = λ z h. refl;
+  pushed = λ z h k i. refl;
   needed = λ z h k e. neither (bytes_eq z i) (bytes_eq z j) e;
-  outside = λ z h. (refl, refl, both_off (bytes_eq z i) (bytes_eq z j) h);
+  outside = λ z h. refl;
   live = λ z h. refl;
   moved = λ z. refl;
   dead = dead;
   stays = stays;
+  unset = λ z h. (let e : None ≡ Some h.0 = h.1 in cc);
+  low = λ p h. refl;
+  fresh = λ z. refl;
   inside = inside;
   silent = λ z. refl;
   summed = ((λ h. cc), ((λ h. cc), ((λ h. cc), ((λ h. cc), ((λ h. cc), tt)))));
@@ -107,17 +111,17 @@ rounds_sound = record {
     dead (suc (suc (suc (suc (suc (suc (suc (suc zero)))))))) h = refl
     dead (suc (suc (suc (suc (suc (suc (suc (suc (suc p))))))))) h = refl
 
-    stays : (p : ℕ) → 7 ≤ p → outer.needed (name_at site.keys p) ≡ true → writes_in (name_at site.keys p) each ≡ false
-    stays zero h k = absurd (omega arith)
-    stays (suc zero) h k = absurd (omega arith)
-    stays (suc (suc zero)) h k = absurd (omega arith)
-    stays (suc (suc (suc zero))) h k = absurd (omega arith)
-    stays (suc (suc (suc (suc zero)))) h k = absurd (omega arith)
-    stays (suc (suc (suc (suc (suc zero))))) h k = absurd (omega arith)
-    stays (suc (suc (suc (suc (suc (suc zero)))))) h k = absurd (omega arith)
-    stays (suc (suc (suc (suc (suc (suc (suc zero))))))) h k = refl
-    stays (suc (suc (suc (suc (suc (suc (suc (suc zero)))))))) h k = refl
-    stays (suc (suc (suc (suc (suc (suc (suc (suc (suc p))))))))) h k = refl
+    stays : (p : ℕ) → 7 ≤ p → p < length site.keys → outer.needed (name_at site.keys p) ≡ true → IsHeld outer (name_at site.keys p)
+    stays zero h j k = absurd (omega arith)
+    stays (suc zero) h j k = absurd (omega arith)
+    stays (suc (suc zero)) h j k = absurd (omega arith)
+    stays (suc (suc (suc zero))) h j k = absurd (omega arith)
+    stays (suc (suc (suc (suc zero)))) h j k = absurd (omega arith)
+    stays (suc (suc (suc (suc (suc zero))))) h j k = absurd (omega arith)
+    stays (suc (suc (suc (suc (suc (suc zero)))))) h j k = absurd (omega arith)
+    stays (suc (suc (suc (suc (suc (suc (suc zero))))))) h j k = cc
+    stays (suc (suc (suc (suc (suc (suc (suc (suc zero)))))))) h j k = cc
+    stays (suc (suc (suc (suc (suc (suc (suc (suc (suc p))))))))) h j k = absurd (omega arith)
 
     inside : (p : ℕ) → p < 7 → inside_world.site.accessed (name_at site.keys p) ≡ true
     inside zero h = refl
@@ -139,7 +143,7 @@ sound = (
     (
       (
         record {
-          target = record { subscripts = λ e. ((refl, tt), ((refl, tt), tt)); undone = λ e. ((refl, tt), ((refl, tt), tt)); free = refl; pushed = λ e. refl; live = refl; ring = λ e. refl; summed = λ e. refl };
+          target = record { subscripts = λ e. ((refl, tt), ((refl, tt), tt)); undone = λ e. ((refl, tt), ((refl, tt), tt)); free = refl; unheld = refl; pushed = λ e. refl; live = refl; ring = λ e. refl; summed = λ e. refl };
           amounts = λ e. (record { factors = ((refl, ((refl, tt), tt)), tt); subscripts = ((refl, tt), tt); live = refl }, (record { factors = ((refl, ((refl, tt), tt)), tt); subscripts = ((refl, tt), tt); live = refl }, tt));
           quiet = λ e. ((λ h. cc), (λ h. cc));
           kinds = λ e. (tt, tt);
@@ -175,8 +179,8 @@ fits = held_fits site site.keys cells refl
 
 met : Answer world outer products cells (2 ∷ 3 ∷ 5 ∷ 9 ∷ 15 ∷ 15 ∷ 25 ∷ 0 ∷ 0 ∷ []) (0 ∷ 0 ∷ 0 ∷ 1 ∷ 10 ∷ 100 ∷ 1000 ∷ 0 ∷ 0 ∷ []) 2
 unfolding exact_index
-met = answered world outer products cells last (2 ∷ 3 ∷ 5 ∷ 9 ∷ 15 ∷ 15 ∷ 25 ∷ 0 ∷ 0 ∷ []) (0 ∷ 0 ∷ 0 ∷ 1 ∷ 10 ∷ 100 ∷ 1000 ∷ 0 ∷ 0 ∷ []) 2 (record { value = 5; tangent = 0 }) sound calm fits (omega arith) refl refl
-    (held_words outer site.keys (2 ∷ 3 ∷ 5 ∷ 9 ∷ 15 ∷ 15 ∷ 25 ∷ 0 ∷ 0 ∷ []) last refl) refl refl (all_small (0 ∷ 0 ∷ 0 ∷ 1 ∷ 10 ∷ 100 ∷ 1000 ∷ 0 ∷ 0 ∷ []) refl) refl refl dead_seed
+met = answered world outer products cells last (2 ∷ 3 ∷ 5 ∷ 9 ∷ 15 ∷ 15 ∷ 25 ∷ 0 ∷ 0 ∷ []) (0 ∷ 0 ∷ 0 ∷ 1 ∷ 10 ∷ 100 ∷ 1000 ∷ 0 ∷ 0 ∷ []) 2 (record { value = 5; tangent = 0 }) sound (λ z. refl) calm fits (omega arith) refl refl
+    (held_words outer site.keys (2 ∷ 3 ∷ 5 ∷ 9 ∷ 15 ∷ 15 ∷ 25 ∷ 0 ∷ 0 ∷ []) last refl (λ z. refl)) refl refl (all_small (0 ∷ 0 ∷ 0 ∷ 1 ∷ 10 ∷ 100 ∷ 1000 ∷ 0 ∷ 0 ∷ []) refl) refl refl dead_seed
   where
     dead_seed : (p : ℕ) → outer.live (name_at site.keys p) ≡ false → true ≡ true → slice_index (0 ∷ 0 ∷ 0 ∷ 1 ∷ 10 ∷ 100 ∷ 1000 ∷ 0 ∷ 0 ∷ []) p ≡ 0
     dead_seed zero h k = refl

@@ -1,6 +1,6 @@
 -- The premises of the law can be met with a loop in a parallel one, increments, and a Reduction:
 --   do i = 1, n: do j = 1, 2: y(i) = y(i) + a*x(j)
-use Rattle.std.proofs.Common.{◌≡◌, ℕ, zero, suc, ◌<◌, ◌≤◌, List, [], ◌∷◌, refl, Bool, true, false, not, ◌||◌, None, arith}
+use Rattle.std.proofs.Common.{◌≡◌, ℕ, zero, suc, ◌<◌, ◌≤◌, List, [], ◌∷◌, refl, Bool, true, false, not, ◌||◌, None, arith, length, Some}
 use Rattle.std.specs.Prelude.{codes, slice_index, bytes_eq, if◌then◌else◌}
 use Rattle.ring_core.specs.Index.{exact_index}
 use Rattle.fl_ast.specs.declared.kind.Kind.TheVariants as kind
@@ -14,7 +14,7 @@ use Rattle.meaning.proofs.Small.{declared, scalar, array, word, number, one, nam
 use Rattle.meaning.specs.Fitting.{Fits}
 use Rattle.transposition.specs.Worlds.{World, is_one_step, in_iteration, name_at}
 use Rattle.transposition.specs.Law.{Use, SharedApart}
-use Rattle.transposition.specs.Sound.{writes_in, SoundAll, SoundRounds, Own}
+use Rattle.transposition.specs.Sound.{writes_in, SoundAll, SoundRounds, Own, IsHeld}
 use Rattle.transposition.specs.Calms.{PairwiseAll, IsCalmAll}
 use Rattle.transposition.specs.Answer.{Answer}
 use Rattle.transposition.proofs.Words.{all_small}
@@ -57,10 +57,10 @@ world = record { site = site; shared = 6; active = λ z. bytes_eq z a || (bytes_
 
 -- the inner loop's variable is in scope in that loop alone
 abbrev outer : Use
-outer = record { needed = λ z. not (bytes_eq z i || bytes_eq z j); live = λ z. bytes_eq z a || (bytes_eq z y || bytes_eq z x); moved = λ z. true }
+outer = record { needed = λ z. not (bytes_eq z i || bytes_eq z j); live = λ z. bytes_eq z a || (bytes_eq z y || bytes_eq z x); moved = λ z. true; held = λ z. None }
 
 abbrev inner : Use
-inner = record { needed = λ z. not (bytes_eq z j); live = λ z. bytes_eq z a || (bytes_eq z y || bytes_eq z x); moved = λ z. true }
+inner = record { needed = λ z. not (bytes_eq z j); live = λ z. bytes_eq z a || (bytes_eq z y || bytes_eq z x); moved = λ z. true; held = λ z. None }
 
 abbrev inside_world : World
 inside_world = in_iteration world 1 clauses i body
@@ -76,23 +76,23 @@ later_off : (b c : Bool) → not (b || c) ≡ true → not c ≡ true
 later_off true c h = cc
 later_off false c h = h
 
-early_off : (b c : Bool) → not (b || c) ≡ true → (b || false) ≡ false
-early_off true c h = cc
-early_off false c h = refl
-
 rounds_sound : SoundRounds world outer inner 1 clauses i body
 rounds_sound = record {
   variables = (own_i, tt);
   whole = λ z h. named i z (λ t. site.ring t ≡ false) h refl;
   unvaried = λ z h. named i z (λ t. writes_in t body ≡ false) h refl;
   privates = tt;
-  pushed = λ z h k. refl;
+  unheld = λ z h. refl;
+  pushed = λ z h k i. refl;
   needed = λ z h k e. wider (bytes_eq z i) (bytes_eq z j) h e;
-  outside = λ z h. (later_off (bytes_eq z i) (bytes_eq z j) h, refl, early_off (bytes_eq z i) (bytes_eq z j) h);
+  outside = λ z h. later_off (bytes_eq z i) (bytes_eq z j) h;
   live = λ z h. refl;
   moved = λ z. refl;
   dead = dead;
   stays = stays;
+  unset = λ z h. (let e : None ≡ Some h.0 = h.1 in cc);
+  low = λ p h. refl;
+  fresh = λ z. refl;
   inside = inside;
   silent = λ z. refl;
   summed = ((λ h. cc), ((λ h. record { q = 1; place = refl; shared = omega arith }), ((λ h. cc), ((λ h. cc), ((λ h. cc), ((λ h. cc), tt))))));
@@ -109,16 +109,16 @@ rounds_sound = record {
     dead (suc (suc (suc (suc (suc (suc (suc zero))))))) h = refl
     dead (suc (suc (suc (suc (suc (suc (suc (suc p)))))))) h = refl
 
-    stays : (p : ℕ) → 6 ≤ p → outer.needed (name_at site.keys p) ≡ true → writes_in (name_at site.keys p) body ≡ false
-    stays zero h k = absurd (omega arith)
-    stays (suc zero) h k = absurd (omega arith)
-    stays (suc (suc zero)) h k = absurd (omega arith)
-    stays (suc (suc (suc zero))) h k = absurd (omega arith)
-    stays (suc (suc (suc (suc zero)))) h k = absurd (omega arith)
-    stays (suc (suc (suc (suc (suc zero))))) h k = absurd (omega arith)
-    stays (suc (suc (suc (suc (suc (suc zero)))))) h k = refl
-    stays (suc (suc (suc (suc (suc (suc (suc zero))))))) h k = cc
-    stays (suc (suc (suc (suc (suc (suc (suc (suc p)))))))) h k = refl
+    stays : (p : ℕ) → 6 ≤ p → p < length site.keys → outer.needed (name_at site.keys p) ≡ true → IsHeld outer (name_at site.keys p)
+    stays zero h j k = absurd (omega arith)
+    stays (suc zero) h j k = absurd (omega arith)
+    stays (suc (suc zero)) h j k = absurd (omega arith)
+    stays (suc (suc (suc zero))) h j k = absurd (omega arith)
+    stays (suc (suc (suc (suc zero)))) h j k = absurd (omega arith)
+    stays (suc (suc (suc (suc (suc zero))))) h j k = absurd (omega arith)
+    stays (suc (suc (suc (suc (suc (suc zero)))))) h j k = cc
+    stays (suc (suc (suc (suc (suc (suc (suc zero))))))) h j k = cc
+    stays (suc (suc (suc (suc (suc (suc (suc (suc p)))))))) h j k = absurd (omega arith)
 
     inside : (p : ℕ) → p < 6 → inside_world.site.accessed (name_at site.keys p) ≡ true
     inside zero h = refl
@@ -138,12 +138,11 @@ sound = (
     tt,
     (
       (
-        record { q = 7; place = refl; only = only_at j 7 site.keys refl; own = omega arith; whole = refl; unneeded = refl; dead = refl; literals = (tt, tt, tt); wholes = (tt, tt, tt) },
-        refl,
-        (
+        record { q = 7; place = refl; only = only_at j 7 site.keys refl; own = omega arith; whole = refl; unneeded = refl; unheld = refl; dead = refl; literals = (tt, tt, tt); wholes = (tt, tt, tt) },
+        λ m. (
           (
             record {
-              target = record { subscripts = λ e. ((refl, tt), tt); undone = λ e. ((refl, tt), tt); free = refl; pushed = λ e. refl; live = refl; ring = λ e. refl; summed = λ e. refl };
+              target = record { subscripts = λ e. ((refl, tt), tt); undone = λ e. ((refl, tt), tt); free = refl; unheld = refl; pushed = λ e. refl; live = refl; ring = λ e. refl; summed = λ e. refl };
               amounts = λ e. (record { factors = ((refl, ((refl, tt), tt)), tt); subscripts = tt; live = refl }, (record { factors = ((refl, tt), tt); subscripts = ((refl, tt), tt); live = refl }, tt));
               quiet = λ e. (((λ h. cc), (λ h. cc)), tt);
               kinds = λ e. ((tt, tt), tt);
@@ -189,8 +188,8 @@ fits = held_fits site site.keys cells refl
 
 met : Answer world outer sums cells (2 ∷ 7 ∷ 156 ∷ 256 ∷ 3 ∷ 5 ∷ 0 ∷ 0 ∷ []) (0 ∷ 0 ∷ 1 ∷ 10 ∷ 0 ∷ 0 ∷ 0 ∷ 0 ∷ []) 1
 unfolding exact_index
-met = answered world outer sums cells last (2 ∷ 7 ∷ 156 ∷ 256 ∷ 3 ∷ 5 ∷ 0 ∷ 0 ∷ []) (0 ∷ 0 ∷ 1 ∷ 10 ∷ 0 ∷ 0 ∷ 0 ∷ 0 ∷ []) 1 (record { value = 7; tangent = 0 }) sound calm fits (omega arith) refl refl
-    (held_words outer site.keys (2 ∷ 7 ∷ 156 ∷ 256 ∷ 3 ∷ 5 ∷ 0 ∷ 0 ∷ []) last refl) refl refl (all_small (0 ∷ 0 ∷ 1 ∷ 10 ∷ 0 ∷ 0 ∷ 0 ∷ 0 ∷ []) refl) refl refl dead_seed
+met = answered world outer sums cells last (2 ∷ 7 ∷ 156 ∷ 256 ∷ 3 ∷ 5 ∷ 0 ∷ 0 ∷ []) (0 ∷ 0 ∷ 1 ∷ 10 ∷ 0 ∷ 0 ∷ 0 ∷ 0 ∷ []) 1 (record { value = 7; tangent = 0 }) sound (λ z. refl) calm fits (omega arith) refl refl
+    (held_words outer site.keys (2 ∷ 7 ∷ 156 ∷ 256 ∷ 3 ∷ 5 ∷ 0 ∷ 0 ∷ []) last refl (λ z. refl)) refl refl (all_small (0 ∷ 0 ∷ 1 ∷ 10 ∷ 0 ∷ 0 ∷ 0 ∷ 0 ∷ []) refl) refl refl dead_seed
   where
     dead_seed : (p : ℕ) → outer.live (name_at site.keys p) ≡ false → true ≡ true → slice_index (0 ∷ 0 ∷ 1 ∷ 10 ∷ 0 ∷ 0 ∷ 0 ∷ 0 ∷ []) p ≡ 0
     dead_seed zero h k = refl

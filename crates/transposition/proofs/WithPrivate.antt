@@ -1,6 +1,6 @@
 -- The premises of the law can be met with a private scalar, and adjoints that are incremented without atomics:
 --   do i = 1, n: d = x(i)*x(i); x(i) = d*x(i)
-use Rattle.std.proofs.Common.{◌≡◌, ℕ, zero, suc, ◌<◌, ◌≤◌, List, [], ◌∷◌, refl, sym, ◌∙◌, subst, Bool, true, false, not, ◌||◌, None, arith, pos}
+use Rattle.std.proofs.Common.{◌≡◌, ℕ, zero, suc, ◌<◌, ◌≤◌, List, [], ◌∷◌, refl, sym, ◌∙◌, subst, Bool, true, false, not, ◌||◌, None, arith, pos, length, Some}
 use Rattle.std.specs.Prelude.{codes, slice_index, bytes_eq}
 use Rattle.ring_core.specs.Index.{exact_index}
 use Rattle.fl_ast.specs.declared.kind.Kind.TheVariants as kind
@@ -17,7 +17,7 @@ use Rattle.meaning.proofs.Small.{declared, scalar, array, word, number, one, nam
 use Rattle.meaning.specs.Fitting.{Fits}
 use Rattle.transposition.specs.Worlds.{World, in_iteration, name_at}
 use Rattle.transposition.specs.Law.{Use, SharedApart}
-use Rattle.transposition.specs.Sound.{writes_in, SoundAll, SoundRounds, Own}
+use Rattle.transposition.specs.Sound.{writes_in, SoundAll, SoundRounds, Own, IsHeld}
 use Rattle.transposition.specs.Calms.{PairwiseAll, IsCalmAll, iteration_log}
 use Rattle.transposition.specs.Answer.{Answer}
 use Rattle.store_core.specs.declared.layout.Shape.{Shape}
@@ -61,10 +61,10 @@ world = record { site = site; shared = 3; active = λ z. bytes_eq z x || bytes_e
 
 -- outside, neither the loop's variable nor the private scalar is in scope
 abbrev outer : Use
-outer = record { needed = λ z. not (bytes_eq z i || bytes_eq z d); live = λ z. bytes_eq z x; moved = λ z. true }
+outer = record { needed = λ z. not (bytes_eq z i || bytes_eq z d); live = λ z. bytes_eq z x; moved = λ z. true; held = λ z. None }
 
 abbrev inner : Use
-inner = record { needed = λ z. true; live = λ z. bytes_eq z x || bytes_eq z d; moved = λ z. true }
+inner = record { needed = λ z. true; live = λ z. bytes_eq z x || bytes_eq z d; moved = λ z. true; held = λ z. None }
 
 abbrev inside_world : World
 inside_world = in_iteration world 1 directive i body
@@ -80,15 +80,6 @@ neither true b h k = cc
 neither false true h k = cc
 neither false false h k = refl
 
-first_off : (a b : Bool) → not (a || b) ≡ true → (a || false) ≡ false
-first_off true b h = cc
-first_off false b h = refl
-
-second_off : (a b : Bool) → not (a || b) ≡ true → (b || false) ≡ false
-second_off true b h = cc
-second_off false true h = cc
-second_off false false h = refl
-
 live_same : (a b : Bool) → (b || false) ≡ false → (a || b) ≡ a
 live_same true b h = refl
 live_same false b h = or_false b h
@@ -99,13 +90,17 @@ rounds_sound = record {
   whole = λ z h. named i z (λ y. site.ring y ≡ false) h refl;
   unvaried = λ z h. named i z (λ y. writes_in y body ≡ false) h refl;
   privates = (own_d, tt);
-  pushed = λ z h k. refl;
+  unheld = λ z h. refl;
+  pushed = λ z h k i. refl;
   needed = λ z h k e. neither (bytes_eq z d) (bytes_eq z i) k e;
-  outside = λ z h. (refl, second_off (bytes_eq z i) (bytes_eq z d) h, first_off (bytes_eq z i) (bytes_eq z d) h);
+  outside = λ z h. refl;
   live = λ z h. live_same (bytes_eq z x) (bytes_eq z d) h;
   moved = λ z. refl;
   dead = dead;
   stays = stays;
+  unset = λ z h. (let e : None ≡ Some h.0 = h.1 in cc);
+  low = λ p h. refl;
+  fresh = λ z. refl;
   inside = inside;
   silent = λ z. refl;
   summed = ((λ h. cc), ((λ h. cc), ((λ h. cc), ((λ h. cc), tt))));
@@ -119,13 +114,13 @@ rounds_sound = record {
     dead (suc (suc (suc (suc zero)))) h = refl
     dead (suc (suc (suc (suc (suc p))))) h = refl
 
-    stays : (p : ℕ) → 3 ≤ p → not (bytes_eq (name_at site.keys p) i || bytes_eq (name_at site.keys p) d) ≡ true → writes_in (name_at site.keys p) body ≡ false
-    stays zero h k = absurd (omega arith)
-    stays (suc zero) h k = absurd (omega arith)
-    stays (suc (suc zero)) h k = absurd (omega arith)
-    stays (suc (suc (suc zero))) h k = cc
-    stays (suc (suc (suc (suc zero)))) h k = cc
-    stays (suc (suc (suc (suc (suc p))))) h k = refl
+    stays : (p : ℕ) → 3 ≤ p → p < length site.keys → not (bytes_eq (name_at site.keys p) i || bytes_eq (name_at site.keys p) d) ≡ true → IsHeld outer (name_at site.keys p)
+    stays zero h j k = absurd (omega arith)
+    stays (suc zero) h j k = absurd (omega arith)
+    stays (suc (suc zero)) h j k = absurd (omega arith)
+    stays (suc (suc (suc zero))) h j k = cc
+    stays (suc (suc (suc (suc zero)))) h j k = cc
+    stays (suc (suc (suc (suc (suc p))))) h j k = absurd (omega arith)
 
     inside : (p : ℕ) → p < 3 → inside_world.site.accessed (name_at site.keys p) ≡ true
     inside zero h = refl
@@ -143,7 +138,7 @@ sound = (
     (
       (
         record {
-          target = record { subscripts = λ e. tt; undone = λ e. tt; free = refl; pushed = λ e. refl; live = refl; ring = λ e. refl; summed = λ e. refl };
+          target = record { subscripts = λ e. tt; undone = λ e. tt; free = refl; unheld = refl; pushed = λ e. refl; live = refl; ring = λ e. refl; summed = λ e. refl };
           amounts = λ e. (record { factors = ((refl, ((refl, tt), tt)), tt); subscripts = ((refl, tt), tt); live = refl }, (record { factors = ((refl, ((refl, tt), tt)), tt); subscripts = ((refl, tt), tt); live = refl }, tt));
           quiet = λ e. ((λ h. cc), (λ h. cc));
           kinds = λ e. (tt, tt);
@@ -153,7 +148,7 @@ sound = (
       (
         (
           record {
-            target = record { subscripts = λ e. ((refl, tt), tt); undone = λ e. ((refl, tt), tt); free = refl; pushed = λ e. refl; live = refl; ring = λ e. refl; summed = λ e. refl };
+            target = record { subscripts = λ e. ((refl, tt), tt); undone = λ e. ((refl, tt), tt); free = refl; unheld = refl; pushed = λ e. refl; live = refl; ring = λ e. refl; summed = λ e. refl };
             amounts = λ e. (record { factors = ((refl, ((refl, tt), tt)), tt); subscripts = tt; live = refl }, (record { factors = ((refl, tt), tt); subscripts = ((refl, tt), tt); live = refl }, tt));
             quiet = λ e. ((λ h. cc), (λ h. cc));
             kinds = λ e. (tt, tt);
@@ -219,8 +214,8 @@ fits = held_fits site site.keys cells refl
 
 met : Answer world outer cubes cells (2 ∷ 27 ∷ 125 ∷ 0 ∷ 0 ∷ []) (0 ∷ 1 ∷ 10 ∷ 0 ∷ 0 ∷ []) 1
 unfolding exact_index
-met = answered world outer cubes cells last (2 ∷ 27 ∷ 125 ∷ 0 ∷ 0 ∷ []) (0 ∷ 1 ∷ 10 ∷ 0 ∷ 0 ∷ []) 1 (record { value = 3; tangent = 0 }) sound calm fits (omega arith) refl refl
-    (held_words outer site.keys (2 ∷ 27 ∷ 125 ∷ 0 ∷ 0 ∷ []) last refl) refl refl (all_small (0 ∷ 1 ∷ 10 ∷ 0 ∷ 0 ∷ []) refl) refl refl dead_seed
+met = answered world outer cubes cells last (2 ∷ 27 ∷ 125 ∷ 0 ∷ 0 ∷ []) (0 ∷ 1 ∷ 10 ∷ 0 ∷ 0 ∷ []) 1 (record { value = 3; tangent = 0 }) sound (λ z. refl) calm fits (omega arith) refl refl
+    (held_words outer site.keys (2 ∷ 27 ∷ 125 ∷ 0 ∷ 0 ∷ []) last refl (λ z. refl)) refl refl (all_small (0 ∷ 1 ∷ 10 ∷ 0 ∷ 0 ∷ []) refl) refl refl dead_seed
   where
     dead_seed : (p : ℕ) → bytes_eq (name_at site.keys p) x ≡ false → true ≡ true → slice_index (0 ∷ 1 ∷ 10 ∷ 0 ∷ 0 ∷ []) p ≡ 0
     dead_seed zero h k = refl
@@ -254,8 +249,8 @@ program_met :
     ≡ adjoint_of program shapes (2 ∷ 3 ∷ 5 ∷ []) seed 1
 unfolding exact_index
 program_met =
-    program_transposed program shapes all_pushed (λ z. bytes_eq z x || bytes_eq z d) (λ k z. Shared) outer the_limits (2 ∷ 3 ∷ 5 ∷ []) final seed last 1 (record { value = 3; tangent = 0 }) sound apart (all_words (2 ∷ 3 ∷ 5 ∷ []) refl) refl refl
-    (held_words outer site.keys final last refl) refl refl (all_small seed refl) dead_seed (omega arith) refl refl refl
+    program_transposed program shapes all_pushed (λ z. bytes_eq z x || bytes_eq z d) (λ k z. Shared) outer the_limits (2 ∷ 3 ∷ 5 ∷ []) final seed last 1 (record { value = 3; tangent = 0 }) sound (λ z. refl) apart (all_words (2 ∷ 3 ∷ 5 ∷ []) refl) refl refl
+    (held_words outer site.keys final last refl (λ z. refl)) refl refl (all_small seed refl) dead_seed (omega arith) refl refl refl
   where
     dead_seed : (p : ℕ) → bytes_eq (name_at site.keys p) x ≡ false → true ≡ true → slice_index (0 ∷ 1 ∷ 10 ∷ 0 ∷ 0 ∷ []) p ≡ 0
     dead_seed zero h k = refl

@@ -1,5 +1,5 @@
 -- The law of the reverse part, as one statement.
-use Rattle.std.specs.Prelude.{◌≡◌, ℕ, ◌+◌, ◌<◌, ◌≤◌, true, false, List, length, Some, Ok, slice_index}
+use Rattle.std.specs.Prelude.{◌≡◌, ℕ, ◌+◌, ◌<◌, ◌≤◌, true, false, List, length, Some, None, Ok, slice_index}
 use Rattle.fl_ast.specs.Tree.{Statements}
 use Rattle.operations.specs.Tree.{Played, play}
 use Rattle.meaning.specs.declared.value.Dual.{Dual}
@@ -35,6 +35,6 @@ pub record Answer (w : World) (u : Use) (xs : Statements) (s : Cells) (vs seed :
 
 abbrev pub ReverseIsTransposed : Type 0
 ReverseIsTransposed =
-    (w : World) (u : Use) (xs : Statements) (s s2 : Cells) (vs seed : List ℕ) (j : ℕ) (d : Dual) → SoundAll w u xs → IsCalmAll xs w (cells_along (unit j) s) → Fits w.site s → w.shared ≤ length w.site.keys → u.moved (name_at w.site.keys j) ≡ true → (run_all xs w.site s).out ≡ Ok s2 → Like u w.site.keys vs s2 → length vs ≡ length w.site.keys → length seed ≡ length w.site.keys → AreWords seed
+    (w : World) (u : Use) (xs : Statements) (s s2 : Cells) (vs seed : List ℕ) (j : ℕ) (d : Dual) → SoundAll w u xs → ((x : List ℕ) → u.held x ≡ None) → IsCalmAll xs w (cells_along (unit j) s) → Fits w.site s → w.shared ≤ length w.site.keys → u.moved (name_at w.site.keys j) ≡ true → (run_all xs w.site s).out ≡ Ok s2 → Like u w.site.keys vs s2 → length vs ≡ length w.site.keys → length seed ≡ length w.site.keys → AreWords seed
     → content s j ≡ Some (Ring d) → u.live (name_at w.site.keys j) ≡ true → ((p : ℕ) → u.live (name_at w.site.keys p) ≡ false → u.moved (name_at w.site.keys p) ≡ true → slice_index seed p ≡ 0)
     → Answer w u xs s vs seed j

@@ -1,5 +1,5 @@
 -- What the law of the reverse part says of a run and of the tree that undoes it.
-use Rattle.std.specs.Prelude.{◌≡◌, ◌⊎◌, ℕ, ◌-◌, ◌<◌, ◌≤◌, ◌^◌, Bool, true, false, cond, nat_lt, List, [], ◌∷◌, ◌++◌, map, take, drop, length, Some, slice_index}
+use Rattle.std.specs.Prelude.{◌≡◌, ◌⊎◌, ℕ, ◌-◌, ◌<◌, ◌≤◌, ◌^◌, Bool, true, false, cond, nat_lt, List, [], ◌∷◌, ◌++◌, map, take, drop, length, Option, Some, slice_index}
 use Rattle.pairing.specs.Ring.{Same}
 use Rattle.pairing.specs.Pair.{pair, live}
 use Rattle.fl_types.specs.declared.access.AccessKind.{AccessKind}
@@ -19,11 +19,13 @@ use Rattle.meaning.specs.Fitting.{HasKind}
 use Rattle.transposition.specs.Tapes.{Tape}
 use Rattle.transposition.specs.Worlds.{World, Local, is_one_step, is_reduction, name_at}
 
--- names in scope whose values the reverse part reads, whose adjoints count, and whose tangents may differ from 0
+-- names in scope whose values the reverse part reads, whose adjoints count, and whose tangents may differ from 0; and the words of the
+-- variables of the sequential loops around, which a parallel loop may unset
 pub record Use : Type 0 where
   pub needed : List ℕ → Bool
   pub live : List ℕ → Bool
   pub moved : List ℕ → Bool
+  pub held : List ℕ → Option ℕ
 
 -- ---- cells
 
@@ -34,9 +36,10 @@ flat n vs bs = take n vs ++ take n bs
 abbrev pub local : ℕ → Tape → List ℕ → List ℕ → Local
 local n t vs bs = record { tape = t; values = drop n vs; adjoints = drop n bs }
 
--- the needed places that are set have their words
-abbrev pub Like : Use → List Key → List ℕ → Cells → Type 0
-Like u keys vs s = (p : ℕ) (v : Value) → content s p ≡ Some v → u.needed (name_at keys p) ≡ true → slice_index vs p ≡ word_of (Some v)
+-- the needed places that are set have their words, and the held ones theirs, set or unset
+pub record Like (u : Use) (keys : List Key) (vs : List ℕ) (s : Cells) : Type 0 where
+  pub read : (p : ℕ) (v : Value) → content s p ≡ Some v → u.needed (name_at keys p) ≡ true → slice_index vs p ≡ word_of (Some v)
+  pub held : (p n : ℕ) → u.held (name_at keys p) ≡ Some n → slice_index vs p ≡ n
 
 abbrev pub tangents : Use → List Key → Cells → List ℕ
 tangents u keys s = live (λ p. u.live (name_at keys p)) 0 (map tangent_of s)
@@ -46,6 +49,8 @@ pub record Fit (w : World) (u : Use) (s : Cells) : Type 0 where
   pub room : w.shared ≤ length w.site.keys
   pub kinds : (p : ℕ) (v : Value) → content s p ≡ Some v → HasKind (kind_of w.site (name_at w.site.keys p)) v
   pub still : (p : ℕ) → u.moved (name_at w.site.keys p) ≡ false → Same (tangent_of (content s p)) 0
+  -- a held place has its word as long as it is set
+  pub held : (p n : ℕ) (v : Value) → content s p ≡ Some v → u.held (name_at w.site.keys p) ≡ Some n → word_of (Some v) ≡ n
 
 -- ---- touches
 

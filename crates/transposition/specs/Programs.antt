@@ -1,5 +1,5 @@
 -- The law of transposition for a whole program.
-use Rattle.std.specs.Prelude.{◌≡◌, ℕ, ◌+◌, ◌<◌, ◌^◌, All, true, false, Bool, List, length, Some, Ok, slice_index}
+use Rattle.std.specs.Prelude.{◌≡◌, ℕ, ◌+◌, ◌<◌, ◌^◌, All, true, false, Bool, List, length, Some, None, Ok, slice_index}
 use Rattle.fl_ast.specs.Tree.{Subroutine}
 use Rattle.fl_types.specs.declared.choice.Choice.{Choice}
 use Rattle.fl_types.specs.declared.choice.Choice.TheVariants.{Shared}
@@ -37,7 +37,7 @@ ProgramIsTransposed =
     (p : Subroutine) (shapes : List Shape) (pushed active : List ℕ → Bool) (choices : ℕ → List ℕ → Choice) (u : Use) (limits : Limits) (words vs seed : List ℕ) (s2 : Cells) (j : ℕ) (d : Dual)
     → let w = program_world p shapes pushed active choices in
     let s = entry_cells p shapes words in
-    SoundAll w u p.body → PairwiseAll SharedApart p.body w (cells_along (unit j) s) → All (λ x. x < 2 ^ 64) words → (run_of p shapes pushed s).out ≡ Ok s2 → first_stop by_conflict limits (events (run_of p shapes pushed s).log) ≡ at_end → Like u w.site.keys vs s2
+    SoundAll w u p.body → ((x : List ℕ) → u.held x ≡ None) → PairwiseAll SharedApart p.body w (cells_along (unit j) s) → All (λ x. x < 2 ^ 64) words → (run_of p shapes pushed s).out ≡ Ok s2 → first_stop by_conflict limits (events (run_of p shapes pushed s).log) ≡ at_end → Like u w.site.keys vs s2
     → length vs ≡ length w.site.keys → length seed ≡ length w.site.keys → AreWords seed → ((q : ℕ) → u.live (name_at w.site.keys q) ≡ false → u.moved (name_at w.site.keys q) ≡ true → slice_index seed q ≡ 0)
     → j < w.shared → content s j ≡ Some (Ring d) → u.live (name_at w.site.keys j) ≡ true → u.moved (name_at w.site.keys j) ≡ true
     → slice_index (reverse_run w p.body s vs seed).cells (w.shared + j) ≡ adjoint_of p shapes words seed j

@@ -1,5 +1,5 @@
 -- What the sets of names must meet, statement by statement.
-use Rattle.std.specs.Prelude.{◌≡◌, ℕ, suc, ◌<◌, ◌≤◌, ◌^◌, ◌||◌, ◌&&◌, Bool, true, false, cond, bytes_eq, List, [], ◌∷◌, Option, Some, None}
+use Rattle.std.specs.Prelude.{◌≡◌, ℕ, suc, ◌<◌, ◌≤◌, ◌^◌, ◌||◌, ◌&&◌, Bool, true, false, cond, bytes_eq, List, [], ◌∷◌, length, Option, Some, None}
 use Rattle.fl_ast.specs.declared.kind.Kind.TheVariants as kind
 use Rattle.fl_ast.specs.Tree.{Expression, literal, get, minus, binary, power, call, Expressions, no_expressions, expression, Designator, Statement, assignment, branch, loop, Statements, no_statements, statement, Arms, no_arms, arm}
 use Rattle.fl_ast.specs.Occurs.{occurs_in_any}
@@ -34,6 +34,8 @@ pub record SoundTarget (w : World) (u : Use) (p : Designator) : Type 0 where
   pub subscripts : w.active p.name ≡ true → NeedsAll u p.subscripts
   pub undone : w.site.pushed p.name ≡ true → NeedsAll u p.subscripts
   pub free : occurs_in_any p.name p.subscripts ≡ false
+  -- it is no variable of a loop around
+  pub unheld : u.held p.name ≡ None
   pub pushed : u.needed p.name ≡ true → w.site.pushed p.name ≡ true
   pub live : u.live p.name ≡ w.active p.name
   pub ring : w.active p.name ≡ true → w.site.ring p.name ≡ true
@@ -114,14 +116,18 @@ pub record SoundVariable (w : World) (u : Use) (var : List ℕ) (first last : Ex
   pub own : w.shared ≤ q
   pub whole : w.site.ring var ≡ false
   pub unneeded : u.needed var ≡ false
+  pub unheld : u.held var ≡ None
   pub dead : u.live var ≡ false
   pub literals : Literals first × Literals last × OptionLiterals step
   -- all three of the index kind, which typing gives
   pub wholes : Whole w.site.ring first × Whole w.site.ring last × OptionWhole w.site.ring step
 
--- in scope
-abbrev pub scope_with : List ℕ → Use → Use
-scope_with var u = record u { needed = λ x. u.needed x || bytes_eq x var }
+-- in scope, with this word
+abbrev pub scope_with : List ℕ → ℕ → Use → Use
+scope_with var n u = record u { needed = λ x. u.needed x || bytes_eq x var; held = λ x. cond (bytes_eq x var) (Some n) (u.held x) }
+
+abbrev pub IsHeld : Use → List ℕ → Type 0
+IsHeld u x = (n : ℕ) × (u.held x ≡ Some n)
 
 abbrev pub SoundAssigned : World → Use → Designator → Expression → Option (List Signed) → Type 0
 SoundAssigned w u p e None = SoundPlain w u p e × SoundStore w u p e
@@ -174,17 +180,23 @@ pub record SoundRounds (w : World) (u inner : Use) (number : ℕ) (directive : D
   pub variables : AllOwn w (loop_variables directive var tree)
   pub whole : (x : List ℕ) → has_name x (loop_variables directive var tree) ≡ true → w.site.ring x ≡ false
   pub unvaried : (x : List ℕ) → has_name x (loop_variables directive var tree) ≡ true → writes_in x (iteration_body directive tree) ≡ false
+  pub unheld : (x : List ℕ) → has_name x (loop_variables directive var tree) ≡ true → u.held x ≡ None
   pub privates : AllOwn w (privates_of w directive var tree)
   -- a private scalar's word is good for what is pushed
-  pub pushed : (x : List ℕ) → has_name x (privates_of w directive var tree) ≡ true → inner.needed x ≡ true → w.site.pushed x ≡ true
+  pub pushed : (x : List ℕ) → has_name x (privates_of w directive var tree) ≡ true → inner.needed x ≡ true
+      → writes_in x (iteration_body directive tree) ≡ true → w.site.pushed x ≡ true
   -- names in scope inside and outside
   pub needed : (x : List ℕ) → inner.needed x ≡ true → has_name x (privates_of w directive var tree) ≡ false → has_name x (loop_variables directive var tree) ≡ false → u.needed x ≡ true
-  pub outside : (x : List ℕ) → u.needed x ≡ true → (inner.needed x ≡ true) × (has_name x (privates_of w directive var tree) ≡ false) × (has_name x (loop_variables directive var tree) ≡ false)
+  pub outside : (x : List ℕ) → u.needed x ≡ true → inner.needed x ≡ true
   pub live : (x : List ℕ) → has_name x (privates_of w directive var tree) ≡ false → inner.live x ≡ u.live x
   pub moved : (x : List ℕ) → inner.moved x ≡ u.moved x
-  -- what an iteration has of its own doesn't count outside, and the outer loops' variables stay
+  -- what an iteration has of its own doesn't count outside, and of its names the outer loops' variables alone are needed there
   pub dead : (p : ℕ) → w.shared ≤ p → u.live (name_at w.site.keys p) ≡ false
-  pub stays : (p : ℕ) → w.shared ≤ p → u.needed (name_at w.site.keys p) ≡ true → writes_in (name_at w.site.keys p) (iteration_body directive tree) ≡ false
+  pub stays : (p : ℕ) → w.shared ≤ p → p < length w.site.keys → u.needed (name_at w.site.keys p) ≡ true → IsHeld u (name_at w.site.keys p)
+  -- these may be private in the loop, and unset by its iterations; set they aren't
+  pub unset : (x : List ℕ) → IsHeld u x → writes_in x (iteration_body directive tree) ≡ false
+  pub low : (p : ℕ) → p < w.shared → u.held (name_at w.site.keys p) ≡ None
+  pub fresh : (x : List ℕ) → inner.held x ≡ None
   -- in the loop each place's name makes touches, and outside none does
   pub inside : (p : ℕ) → p < w.shared → (in_iteration w number directive var tree).site.accessed (name_at w.site.keys p) ≡ true
   pub silent : (x : List ℕ) → w.site.accessed x ≡ false
@@ -204,7 +216,7 @@ abbrev mutual
   Sound w u (assignment line atomic p e) = SoundAssigned w u p e (increment_terms w.site.ring p e)
   Sound w u (branch line arms other) = (arm_count arms < 2 ^ 64) × SoundArms w u arms × SoundAll w u other
   Sound w u (loop line number None var first last step body) =
-      SoundVariable w u var first last step × (writes_in var body ≡ false) × SoundAll (in_turn w var) (scope_with var u) body
+      SoundVariable w u var first last step × ((n : ℕ) → SoundAll (in_turn w var) (scope_with var n u) body)
   Sound w u (loop line number (Some directive) var first last step body) =
       (inner : Use)
       × SoundRounds w u inner number directive var body

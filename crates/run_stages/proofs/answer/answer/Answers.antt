@@ -16,10 +16,6 @@ pub returns-in_err-forwarded-clause-part : goal.returns-in_err-forwarded-clause-
 unfolding Rattle.run_stages.specs.Runs.answer_stage
 returns-in_err-forwarded-clause-part g c = ends_in c.in_err-forwarded.ensures.part c.from_residual.ensures
 
-pub returns-in_err-check_kept-clause-part : goal.returns-in_err-check_kept-clause-part
-unfolding Rattle.run_stages.specs.Runs.answer_stage
-returns-in_err-check_kept-clause-part g c = goes_in c.in_ok-forwarded.ensures.part (ends_in c.in_err-check_kept.ensures.part c.from_residual-in_err-check_kept.ensures)
-
 pub returns-in-Ok-answer_back-clause-part : goal.returns-in-Ok-answer_back-clause-part
 unfolding Rattle.run_stages.specs.Runs.answer_stage
-returns-in-Ok-answer_back-clause-part g c = goes_in c.in_ok-forwarded.ensures.part (goes_in c.in_ok-check_kept.ensures.part (gives _ c.in-Ok-answer_back.ensures))
+returns-in-Ok-answer_back-clause-part g c = goes_in c.in_ok-forwarded.ensures.part (gives _ c.in-Ok-answer_back.ensures)

@@ -36,7 +36,7 @@ returns c =
     rw (c.in_ok-answer.ensures
     ∙ answered i.typed i.layout i.args i.weights of wrt active c.args.needed.now.names c.in_ok-choices.choices.entries c.args.forwarded.cells.items c.args.forwarded.tape
     c.in_ok-ran.ran.values.items c.in_ok-ran.ran.adjoints.items c.in_ok-ran.ran.adds c.requires.laid
-    (record { readable = c.program.ensures.typed.readable; typed = c.requires.judged; fit = c.requires.fit }) c.requires.kept c.requires.given.small c.requires.given.light c.requires.given.asked
+    (record { readable = c.program.ensures.typed.readable; typed = c.requires.judged; fit = c.requires.fit }) c.requires.given.small c.requires.given.light c.requires.given.asked
     (active_is i.typed of wrt active c.requires.active) c.requires.needed
     (c.in_ok-choices.ensures ∙ ap (λ (q : Program). choices_of q (λ x. has_name x active)) c.program.ensures.program) c.requires.ran
     (c.in_ok-ran.ensures.meant (program_tree i.typed) (is_needed i.typed (is_active i.typed of wrt)) (entry_words i.layout i.args) c.requires.ran.cells_are

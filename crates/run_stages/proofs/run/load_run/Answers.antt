@@ -12,4 +12,4 @@ returns-clause-stage g c = goes_on c.in_ok-prepared.ensures.stage (stands c.answ
 
 pub returns-clause-done : goal.returns-clause-done
 returns-clause-done g c =
-    run_told _ _ c.in_ok-prepared.prepared.inputs c.answer.result _ _ (λ files e. c.in_ok-prepared.ensures.stage.told files e) c.answer.ensures.ends c.answer.ensures.kept c.answer.ensures.text c.answer.ensures.ticks
+    run_told _ _ c.in_ok-prepared.prepared.inputs c.answer.result _ _ (λ files e. c.in_ok-prepared.ensures.stage.told files e) c.answer.ensures.ends c.answer.ensures.text c.answer.ensures.ticks
