@@ -40,6 +40,7 @@ use Rattle.sound_programs.proofs.Transposing.{apart_all}
 use Rattle.shared_law.specs.Apart.{ReadsAreApart}
 use Rattle.shared_law.proofs.Loops.{lone_all}
 use Rattle.shared_law.proofs.Choices.{never_meets}
+use Rattle.shared_law.proofs.Evaluated.{reads_evaluated}
 use Rattle.shared_law.proofs.Reaching.{IsShown, all_apart}
 
 every : {X : Type 0} (P : X → Type 0) (xs : List X) → AllByRecursion P xs → Each P xs
@@ -103,11 +104,15 @@ reads_apart p of wrt values givens limits words s2 j a kept loops small run stop
     surveys = all_surveys p on (known_of p on) c.typed refl
 
     shown : Each (IsShown p.decls w) (headed_loops_of_all [] (stmt_trees p.body))
-    shown l i = (
-      lone_all p (at_unit p.line) (stmt_trees p.body) c.clean a.readable.body l i,
-      λ site heads cells h q o.
-          let n = never_meets p on givens c.typed l.loop.number (name_at site.keys q) o in
-          let same : n.known ≡ known_loop p.decls on l = one_known n.known (known_loop p.decls on l) (numbered (known_of p on) l.loop.number) n.stands (stands l i) in
-          loops l i site heads cells h (survey_at (known_of p on) surveys l.loop.number (known_loop p.decls on l) (stands l i)) (name_at site.keys q)
-          (subst (λ (k : KnownLoop). AllByRecursion (NeverMeet k) (pairs_of (name_at site.keys q ∷ []) k)) same n.apart) q refl,
-    )
+    shown l i =
+        let lone = lone_all p (at_unit p.line) (stmt_trees p.body) c.clean a.readable.body l i in (
+          lone,
+          λ site heads cells h q o x y b d n e f.
+              let never = never_meets p on givens c.typed l.loop.number (name_at site.keys q) o in
+              let same : never.known ≡ known_loop p.decls on l =
+              one_known never.known (known_loop p.decls on l) (numbered (known_of p on) l.loop.number) never.stands (stands l i) in
+              let one = reads_evaluated p.decls on l site heads cells lone.flat h x q b e in
+              let two = reads_evaluated p.decls on l site heads cells lone.flat h y q d f in
+              loops l i site heads cells h (survey_at (known_of p on) surveys l.loop.number (known_loop p.decls on l) (stands l i)) (name_at site.keys q)
+              (subst (λ (k : KnownLoop). AllByRecursion (NeverMeet k) (pairs_of (name_at site.keys q ∷ []) k)) same never.apart) x y q n one.0 two.0 one.1,
+        )

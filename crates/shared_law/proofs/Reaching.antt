@@ -20,7 +20,7 @@ use Rattle.meaning.specs.Reached.{HoldsAtEach, HoldsAtAll, HoldsInArms, HoldsInL
 use Rattle.meaning.specs.Groups.{iteration_of}
 use Rattle.meaning.proofs.Parts.{bound, lined, result_once}
 use Rattle.transposition.specs.Worlds.{World, is_one_step, name_at, in_iteration}
-use Rattle.transposition.specs.Law.{SharedApart, Calm}
+use Rattle.transposition.specs.Law.{HasDifferentiatedRead, SharedApart, Calm}
 use Rattle.transposition.specs.Calms.{state_at, iteration_log, Pairwise, PairwiseAll, PairwiseArms, IsFlat, AreFlat, AreFlatArms}
 use Rattle.transposition.proofs.Nesting.{body_run, body_flat}
 use Rattle.transposition.proofs.Parallel.{state_end, chained}
@@ -29,7 +29,7 @@ use Rattle.meaning.specs.Statements.{private_names}
 use Rattle.index_forms.specs.Loops.{HeadedLoop, headed_loops, headed_loops_of_all, headed_loops_of_arms, inside as statements_of, further}
 use Rattle.index_law.specs.Meetings.{FreeRun}
 use Rattle.sound_programs.proofs.Lists.{Each, each_left, each_right}
-use Rattle.shared_law.specs.Apart.{IsInstance, AreApartAt}
+use Rattle.shared_law.specs.Apart.{IsInstance}
 use Rattle.shared_law.proofs.Free.{ArePassages, ArePeaceful, no_conflict}
 use Rattle.shared_law.proofs.Loops.{IsLone}
 
@@ -62,10 +62,10 @@ held_inside true (statement (branch line arms other) ss) site cells h = tt
 held_inside true (statement (loop line number directive var first last step body) ss) site cells h = h
 
 -- an iteration, by its statements
-abbrev iteration_by : Site → Directive → List ℕ → Heads → Statements → ℕ → Run
+abbrev pub iteration_by : Site → Directive → List ℕ → Heads → Statements → ℕ → Run
 iteration_by site d var heads body = one_iteration site d var heads body (run_all (iteration_body d body))
 
-are_passages : (site : Site) (d : Directive) (var : List ℕ) (heads : Heads) (body : Statements) → AreFlat body → ArePassages (iteration_by site d var heads body)
+pub are_passages : (site : Site) (d : Directive) (var : List ℕ) (heads : Heads) (body : Statements) → AreFlat body → ArePassages (iteration_by site d var heads body)
 are_passages site d var heads body flat = record {
   log = λ k c. refl;
   plain = λ k c.
@@ -132,11 +132,14 @@ arm_apart o false A B C D m f g s s2 e h r x y = y e h r
 
 -- ---- along a run
 
--- what is to be shown of a loop: it has no other parallel one in it, and in each instance the reads of names without one-step choices are apart
+-- what is to be shown of a loop: it has no other parallel one in it, and no two iterations of an instance have differentiated reads of a
+-- name without one-step choices at one place
 abbrev pub IsShown : List Decl → World → HeadedLoop → Type 0
 IsShown decls w l =
     IsLone l × ((site : Site) (heads : Heads) (cells : Cells) → IsInstance decls l site heads cells → (p : ℕ)
-    → is_one_step (w.choices l.loop.number (name_at site.keys p)) ≡ false → AreApartAt w.active l site heads cells p)
+    → is_one_step (w.choices l.loop.number (name_at site.keys p)) ≡ false → (i j : ℕ) → i < iterations heads → j < iterations heads → i ≢ j
+    → HasDifferentiatedRead w.active p (iteration_log site l.loop.directive l.loop.var heads l.loop.body cells i)
+    → HasDifferentiatedRead w.active p (iteration_log site l.loop.directive l.loop.var heads l.loop.body cells j) → ⊥)
 
 -- a world where a run stands
 abbrev pub standing : World → Site → World

@@ -1,9 +1,10 @@
 -- Differentiated reads of names with the choice Shared, in different iterations of a parallel loop.
-use Rattle.std.specs.Prelude.{◌≡◌, ◌≢◌, ℕ, ◌<◌, ◌^◌, All, Bool, true, List, [], ◌∷◌, Ok}
+use Rattle.std.specs.Prelude.{◌≡◌, ◌≢◌, ℕ, ◌<◌, ◌^◌, All, Bool, true, List, [], ◌∷◌, Some, Ok}
 use Rattle.std.specs.List.{AllByRecursion}
 use Rattle.fl_ast.specs.declared.decl.Decl.{Decl}
 use Rattle.fl_ast.specs.declared.stmt.Program.{Program}
 use Rattle.fl_ast.specs.Tree.{stmt_trees, program_tree}
+use Rattle.fl_types.specs.declared.access.AccessKind.TheVariants.{Read}
 use Rattle.fl_types.specs.Sharing.{is_ring_name}
 use Rattle.store_core.specs.declared.values.Entry.{Entry}
 use Rattle.store_core.specs.Places.{shapes_of}
@@ -18,9 +19,9 @@ use Rattle.meaning.specs.Groups.{iteration_of}
 use Rattle.reachability.specs.Reached.{IsAmong}
 use Rattle.transposition.specs.Worlds.{name_at}
 use Rattle.transposition.specs.Law.{HasDifferentiatedRead, SharedApart}
-use Rattle.transposition.specs.Calms.{iteration_log, PairwiseAll}
+use Rattle.transposition.specs.Calms.{iteration_log, PairwiseAll, AreFlat}
 use Rattle.index_forms.specs.Loops.{HeadedLoop, headed_loops_of_all, inside}
-use Rattle.index_law.specs.Meetings.{FreeRun}
+use Rattle.index_law.specs.Meetings.{In, FreeRun, Evaluated, place_in}
 use Rattle.index_law.specs.Starts.{IsBegun}
 use Rattle.certificate.specs.declared.derivation.Given.{Given}
 use Rattle.certificate_rules.specs.Surveys.{IsSurvey}
@@ -42,19 +43,29 @@ pub record IsInstance (decls : List Decl) (l : HeadedLoop) (site : Site) (heads 
       → HoldsAtAll IsSound (inside l) (in_iteration site l.loop.directive l.loop.var l.loop.body)
       (iteration_cells site l.loop.directive l.loop.var l.loop.body heads k c)
 
--- no two iterations of the instance have a differentiated read at the place
-abbrev pub AreApartAt : (active : List ℕ → Bool) → HeadedLoop → Site → Heads → Cells → ℕ → Type 0
-AreApartAt active l site heads cells p =
-    (i j : ℕ) → i < iterations heads → j < iterations heads → i ≢ j
-    → HasDifferentiatedRead active p (iteration_log site l.loop.directive l.loop.var heads l.loop.body cells i)
-    → HasDifferentiatedRead active p (iteration_log site l.loop.directive l.loop.var heads l.loop.body cells j) → ⊥
+-- a read on the right side of an assignment to an active name that iteration k evaluates, at a place
+pub record IsDifferentiated (on : List ℕ → Bool) (site : Site) (l : HeadedLoop) (heads : Heads) (cells : Cells) (k p : ℕ) : Type 0 where
+  pub evaluated : Evaluated site l.loop heads cells k
+  pub right : In evaluated.access evaluated.group.right
+  pub active : on evaluated.group.target ≡ true
+  pub reads : evaluated.access.kind ≡ Read
+  pub falls : place_in site l.loop heads cells k evaluated ≡ Some p
 
--- where the pairs of a name in the loop never meet, its differentiated reads are apart in each instance
+-- each differentiated read that the log of an iteration tells is such a read, of the name of its place
+abbrev pub ReadsAreEvaluated : Type 0
+ReadsAreEvaluated =
+    (decls : List Decl) (on : List ℕ → Bool) (l : HeadedLoop) (site : Site) (heads : Heads) (cells : Cells) → AreFlat l.loop.body
+    → IsInstance decls l site heads cells → (k p : ℕ) → k < iterations heads
+    → HasDifferentiatedRead on p (iteration_log site l.loop.directive l.loop.var heads l.loop.body cells k)
+    → (a : IsDifferentiated on site l heads cells k p) × (a.evaluated.access.place.name ≡ name_at site.keys p)
+
+-- where the pairs of a name in the loop never meet, no two iterations of an instance have differentiated reads of it at one place
 abbrev pub LoopIsApart : List Decl → (active : List ℕ → Bool) → HeadedLoop → Type 0
 LoopIsApart decls active l =
     (site : Site) (heads : Heads) (cells : Cells) → IsInstance decls l site heads cells → IsSurvey (survey_by decls l)
     → (x : List ℕ) → AllByRecursion (NeverMeet (known_loop decls active l)) (pairs_of (x ∷ []) (known_loop decls active l))
-    → (p : ℕ) → name_at site.keys p ≡ x → AreApartAt active l site heads cells p
+    → (i j p : ℕ) → i ≢ j → (a : IsDifferentiated active site l heads cells i p) → IsDifferentiated active site l heads cells j p
+    → a.evaluated.access.place.name ≡ x → ⊥
 
 abbrev pub LoopsAreApart : Program → (active : List ℕ → Bool) → Type 0
 LoopsAreApart p active = (l : HeadedLoop) → IsAmong (headed_loops_of_all [] (stmt_trees p.body)) l → LoopIsApart p.decls active l

@@ -1,4 +1,4 @@
-ghost use Rattle.shared_law.specs.Apart.{KnownChoicesFit, ReadsAreApart};
+ghost use Rattle.shared_law.specs.Apart.{KnownChoicesFit, ReadsAreApart, ReadsAreEvaluated};
 
 /// The choices that go by what is known of a program's loops fit. It does nothing.
 pub fn known_choices_fit()
@@ -9,4 +9,9 @@ pub fn known_choices_fit()
 /// of a name with the choice Shared at one place, where that holds of each loop by what is known of it. It does nothing.
 pub fn reads_are_apart()
     ensures { ReadsAreApart }
+{}
+
+/// Each differentiated read that the log of an iteration tells is one that the iteration evaluates, of the name of its place. It does nothing.
+pub fn reads_are_evaluated()
+    ensures { ReadsAreEvaluated }
 {}

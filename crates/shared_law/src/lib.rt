@@ -3,4 +3,4 @@
 
 mod laws;
 
-pub use laws::{known_choices_fit, reads_are_apart};
+pub use laws::{known_choices_fit, reads_are_apart, reads_are_evaluated};
