@@ -116,7 +116,7 @@ target_path : (scope : Scope) (line : ℕ) (path : List PathStep) (kind : Access
 target_path scope line path kind p o h =
     by_side (o.path ≡ path) (split o (reads_all scope line path p.subscripts) (access scope line path kind p) h) (λ m. reads_all_path scope line path p.subscripts o m) (λ m. access_path scope line path kind p o m)
 
-assignment_path : (scope : Scope) (line : ℕ) (path : List PathStep) (atomic : Bool) (p : Designator) (e : Expression) (t : Option (List Signed)) (o : Occurrence) → In o (assignment_accesses scope line path atomic p e t) → o.path ≡ path
+pub assignment_path : (scope : Scope) (line : ℕ) (path : List PathStep) (atomic : Bool) (p : Designator) (e : Expression) (t : Option (List Signed)) (o : Occurrence) → In o (assignment_accesses scope line path atomic p e t) → o.path ≡ path
 assignment_path scope line path atomic p e None o h =
     by_side (o.path ≡ path) (split o (reads scope line path e) (reads_all scope line path p.subscripts ++ access scope line path Write p) h) (λ m. reads_path scope line path e o m) (λ m. target_path scope line path Write p o m)
 assignment_path scope line path atomic p e (Some rs) o h =

@@ -124,12 +124,12 @@ two_heads v side h j site cells c k x f z t u e d w m rest p g = by_first (bytes
     by_first false i q = by_second (bytes_eq x j.var) i refl q
 
 -- the heads of a loop, by the turns that were counted
-abbrev HeadsAre : Head → Option Head → Site → Cells → Heads → Type 0
+abbrev pub HeadsAre : Head → Option Head → Site → Cells → Heads → Type 0
 HeadsAre h None site cells heads = (t : IterationCount) × ((turns_of h.first h.last h.step site cells).out ≡ Ok t) × ((h.var, t) ∷ [] ≡ heads)
 HeadsAre h (Some j) site cells heads =
     (t : IterationCount) × ((turns_of h.first h.last h.step site cells).out ≡ Ok t) × (u : IterationCount) × ((turns_of j.first j.last j.step site cells).out ≡ Ok u) × ((h.var, t) ∷ (j.var, u) ∷ [] ≡ heads)
 
-heads_are : (h : Head) (more : Option Head) (site : Site) (cells : Cells) (heads : Heads) → (heads_of h more site cells).out ≡ Ok heads → HeadsAre h more site cells heads
+pub heads_are : (h : Head) (more : Option Head) (site : Site) (cells : Cells) (heads : Heads) → (heads_of h more site cells).out ≡ Ok heads → HeadsAre h more site cells heads
 heads_are h None site cells heads e =
     let a = bound (at_line h.line (turns_of h.first h.last h.step site cells)) (λ t. further_turns None site cells >>= (λ hs. pure ((h.var, t) ∷ hs))) heads e in
     let s = a.second in

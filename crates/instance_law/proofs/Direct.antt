@@ -91,11 +91,11 @@ module _ (side : Side) (fixed : List ℕ → Bool) (before : Cells) where
     agrees = group_agrees v (set site) k a site before cells os d h rd fx g;
   }
 
-  same_spot : (v : Atom → ℤ) (site : Site) (y x : Spot) (g : Group) → y ≡ x → Met v (set site) y g → Met v (set site) x g
+  pub same_spot : (v : Atom → ℤ) (site : Site) (y x : Spot) (g : Group) → y ≡ x → Met v (set site) y g → Met v (set site) x g
   same_spot v site y x g e h = subst (λ (z : Spot). Met v (set site) z g) e h
 
   -- a condition or bounds
-  group_told : (n m a : ℕ) (k : Known) (site : Site) (cells : Cells) (path to : List PathStep) (os : List Occurrence) (gs : List Group) → n ≤ m → AllDefined site cells os → HoldsFixed fixed before site cells →
+  abbrev pub group_told : (n m a : ℕ) (k : Known) (site : Site) (cells : Cells) (path to : List PathStep) (os : List Occurrence) (gs : List Group) → n ≤ m → AllDefined site cells os → HoldsFixed fixed before site cells →
       Told n m a (a + length os) no_loops k site cells to (spot_at k a path os ∷ []) (group_at site cells os ∷ gs)
   group_told n m a k site cells path to os gs l d fx = record {
     bindings = group_bindings (set site) k a site cells os;
@@ -107,7 +107,7 @@ module _ (side : Side) (fixed : List ℕ → Bool) (before : Cells) where
   }
 
   -- of more spots, where the others aren't on the path
-  more_spots : (n m a b c : ℕ) (k : Known) (site : Site) (cells : Cells) (to : List PathStep) (y : Spot) (xs : List Spot) (gs : List Group) → b ≤ c → ((x : Spot) → In x xs → LeadsTo x.path to → ⊥) →
+  abbrev pub more_spots : (n m a b c : ℕ) (k : Known) (site : Site) (cells : Cells) (to : List PathStep) (y : Spot) (xs : List Spot) (gs : List Group) → b ≤ c → ((x : Spot) → In x xs → LeadsTo x.path to → ⊥) →
       Told n m a b no_loops k site cells to (y ∷ []) gs → Told n m a c no_loops k site cells to (y ∷ xs) gs
   more_spots n m a b c k site cells to y xs gs l off t = record {
     bindings = t.bindings;
@@ -276,19 +276,21 @@ module _ (side : Side) (fixed : List ℕ → Bool) (before : Cells) where
     holds = fixed_after fixed s site before cells c (and_parts (is_sequential s) (are_sequential ss) r.sequential).0 (first_ran s ss site cells d r c h).off h r.holds;
   }
 
-  -- a statement's bindings and those of statements behind it
-  module _ (n m p a b c : ℕ) (loops others : ℕ → Bool) (k after : Known) (site : Site) (cells past : Cells) (to : List PathStep) (xs ys : List Spot) (gs hs : List Group) where
-    pub then_told : n ≤ m → m ≤ p → a ≤ b → b ≤ c → ((l : ℕ) → loops l ≡ true → others l ≡ true → ⊥) → (all : ℕ → Bool) → ((l : ℕ) → loops l ≡ true → all l ≡ true) → ((l : ℕ) → others l ≡ true → all l ≡ true) →
-        (t : Told n m a b loops k site cells to xs gs) → ((v : Atom → ℤ) → Agrees v t.bindings → HoldsKnown v k site cells → HoldsKnown v after site past) → Told m p b c others after site past to ys hs → Told n p a c all k site cells to (xs ++ ys) (gs ++ hs)
-    then_told i j x y sep all f g t holds u = record {
+  -- bindings of one part and those of another behind it
+  module _ (n m p q a b c e : ℕ) (loops others all : ℕ → Bool) (k after : Known) (site past_site : Site) (cells past : Cells) (to : List PathStep) (xs ys : List Spot) (gs hs whole : List Group) where
+    abbrev pub then_told : n ≤ m → m ≤ p → p ≤ q → a ≤ b → b ≤ c → c ≤ e → ((l : ℕ) → loops l ≡ true → others l ≡ true → ⊥) → ((l : ℕ) → loops l ≡ true → all l ≡ true) → ((l : ℕ) → others l ≡ true → all l ≡ true) →
+        ((g : Group) → In g gs → In g whole) → ((g : Group) → In g hs → In g whole) → set site ≡ set past_site →
+        (t : Told n m a b loops k site cells to xs gs) → ((v : Atom → ℤ) → Agrees v t.bindings → HoldsKnown v k site cells → HoldsKnown v after past_site past) → ((v : Atom → ℤ) → HasReads v site before → HasReads v past_site before) →
+        Told m p b c others after past_site past to ys hs → Told n q a e all k site cells to (xs ++ ys) whole
+    then_told i j w x y z sep f g into_first into_second same t holds reads u = record {
       bindings = t.bindings ++ u.bindings;
-      lies = lie_both side n p a c all t.bindings u.bindings
-          (lie_wider side n m a b n p a c loops all (omega arith) (omega (arith, j)) (omega arith) (omega (arith, y)) f t.bindings t.lies)
-          (lie_wider side m p b c n p a c others all (omega (arith, i)) (omega arith) (omega (arith, x)) (omega arith) g u.bindings u.lies);
+      lies = lie_both side n q a e all t.bindings u.bindings
+          (lie_wider side n m a b n q a e loops all (omega arith) (omega (arith, j, w)) (omega arith) (omega (arith, y, z)) f t.bindings t.lies)
+          (lie_wider side m p b c n q a e others all (omega (arith, i)) (omega (arith, w)) (omega (arith, x)) (omega (arith, z)) g u.bindings u.lies);
       apart = apart_both (Lies side n m a b loops) (Lies side m p b c others) t.bindings u.bindings (separate_after side side n m a b m p b c loops others (omega arith) (omega arith) sep) t.lies u.lies t.apart u.apart;
-      met = λ v w h rd z q lead. by_side ((g : Group) × In g (gs ++ hs) × Met v (set site) z g) (split z xs ys q)
-          (λ e. let o = t.met v (agrees_left v t.bindings u.bindings w) h rd z e lead in (o.0, in_left o.0 gs hs o.1, o.2))
-          (λ e. let o = u.met v (agrees_right v t.bindings u.bindings w) (holds v (agrees_left v t.bindings u.bindings w) h) rd z e lead in (o.0, in_right o.0 gs hs o.1, o.2));
+      met = λ v r h rd d r2 lead. by_side ((g : Group) × In g whole × Met v (set site) d g) (split d xs ys r2)
+          (λ o. let o = t.met v (agrees_left v t.bindings u.bindings r) h rd d o lead in (o.0, into_first o.0 o.1, o.2))
+          (λ o. let o = u.met v (agrees_right v t.bindings u.bindings r) (holds v (agrees_left v t.bindings u.bindings r) h) (reads v rd) d o lead in (o.0, into_second o.0 o.1, subst (λ (c : Setting). Met v c d o.0) (sym same) o.2));
     }
 
   pub in_both : (n k : ℕ) (s : Statement) (ss : Statements) (a : ℕ) (scope : Scope) (path : List PathStep) → a + length (accesses scope n path s) + length (accesses_all scope (n + statement_count s) path ss) ≡ a + length (accesses scope n path s ++ accesses_all scope (n + statement_count s) path ss)
@@ -296,13 +298,12 @@ module _ (side : Side) (fixed : List ℕ → Bool) (before : Cells) where
       let w : length (accesses scope n path s ++ accesses_all scope (n + statement_count s) path ss) ≡ length (accesses scope n path s) + length (accesses_all scope (n + statement_count s) path ss) = length-append (accesses scope n path s) (accesses_all scope (n + statement_count s) path ss) in
       omega (arith, w)
 
-  pub told_from : (n m a b : ℕ) (loops : ℕ → Bool) (k : Known) (site : Site) (cells : Cells) (to : List PathStep) (spots : List Spot) (gs hs : List Group) (b2 m2 : ℕ) → b ≡ b2 → m ≡ m2 → gs ≡ hs → Told n m a b loops k site cells to spots gs → Told n m2 a b2 loops k site cells to spots hs
-  told_from n m a b loops k site cells to spots gs hs b2 m2 e i f t =
-      subst (λ (z : List Group). Told n m2 a b2 loops k site cells to spots z) f (subst (λ (z : ℕ). Told n z a b2 loops k site cells to spots gs) i (subst (λ (z : ℕ). Told n m a z loops k site cells to spots gs) e t))
+  pub in_rest : (n : ℕ) (path : List PathStep) (s : Statement) (ss : Statements) (site : Site) (cells c : Cells) → (run s site cells).out ≡ Ok c → (g : Group) → In g (groups_of_all (n + statement_count s) path ss site c) → In g (groups_of_all n path (statement s ss) site cells)
+  in_rest n path s ss site cells c h g i = in_right g (groups_of n path s site cells) (groups_from (run s site cells).out (groups_of_all (n + statement_count s) path ss site))
+      (subst (λ (o : Result Cells TrapAt). In g (groups_from o (groups_of_all (n + statement_count s) path ss site))) (sym h) i)
 
-  pub groups_after : (n : ℕ) (path : List PathStep) (s : Statement) (ss : Statements) (site : Site) (cells c : Cells) → (run s site cells).out ≡ Ok c →
-      groups_of n path s site cells ++ groups_of_all (n + statement_count s) path ss site c ≡ groups_of_all n path (statement s ss) site cells
-  groups_after n path s ss site cells c h = ap (λ (o : Result Cells TrapAt). groups_of n path s site cells ++ groups_from o (groups_of_all (n + statement_count s) path ss site)) (sym h)
+  pub in_first : (n : ℕ) (path : List PathStep) (s : Statement) (ss : Statements) (site : Site) (cells : Cells) (g : Group) → In g (groups_of n path s site cells) → In g (groups_of_all n path (statement s ss) site cells)
+  in_first n path s ss site cells g i = in_left g (groups_of n path s site cells) (groups_from (run s site cells).out (groups_of_all (n + statement_count s) path ss site)) i
 
   pub all_told : (n a : ℕ) (k : Known) (path : List PathStep) (site : Site) (cells d : Cells) (to : List PathStep) (ss : Statements) (tail : List PathStep) → to ≡ path ++ tail → Outside n (n + statements_count ss) tail → RanAll ss site cells d →
       Told n (n + statements_count ss) a (a + length (accesses_all (scope_at site) n path ss)) no_loops k site cells to (spots_in (set site) n k path a ss) (groups_of_all n path ss site cells)
@@ -319,8 +320,7 @@ module _ (side : Side) (fixed : List ℕ → Bool) (before : Cells) where
       (rest_ran s ss site cells d r b.value b.first b.second) in
       let e : a + length own + length others ≡ a + length (own ++ others) = in_both n 0 s ss a (scope_at site) path in
       let i : m + statements_count ss ≡ n + (statement_count s + statements_count ss) = omega arith in
-      told_from n (m + statements_count ss) a (a + length own + length others) no_loops k site cells to (spots_of (set site) n k path a s ++ spots_in (set site) m (known_after side n s k) path (a + length own) ss)
-      (groups_of n path s site cells ++ groups_of_all m path ss site b.value) (groups_of_all n path (statement s ss) site cells) (a + length (own ++ others)) (n + (statement_count s + statements_count ss)) e i (groups_after n path s ss site cells b.value b.first)
-      (then_told n m (m + statements_count ss) a (a + length own) (a + length own + length others) no_loops no_loops k (known_after side n s k) site cells b.value to (spots_of (set site) n k path a s) (spots_in (set site) m (known_after side n s k) path (a + length own) ss)
-      (groups_of n path s site cells) (groups_of_all m path ss site b.value) (omega arith) (omega arith) (omega arith) (omega arith) (λ l h g. cc) no_loops (λ l h. h) (λ l h. h) one.told
-      (λ v g h. known_after_holds v side n s k site cells b.value (and_parts (is_sequential s) (are_sequential ss) r.sequential).0 b.first (one.stored v g) h) more)
+      then_told n m (m + statements_count ss) (n + (statement_count s + statements_count ss)) a (a + length own) (a + length own + length others) (a + length (own ++ others)) no_loops no_loops no_loops k (known_after side n s k) site site cells b.value to
+      (spots_of (set site) n k path a s) (spots_in (set site) m (known_after side n s k) path (a + length own) ss) (groups_of n path s site cells) (groups_of_all m path ss site b.value) (groups_of_all n path (statement s ss) site cells)
+      (omega arith) (omega arith) (omega (arith, i)) (omega arith) (omega arith) (omega (arith, e)) (λ l h g. cc) (λ l h. h) (λ l h. h) (in_first n path s ss site cells) (in_rest n path s ss site cells b.value b.first) refl one.told
+      (λ v g h. known_after_holds v side n s k site cells b.value (and_parts (is_sequential s) (are_sequential ss) r.sequential).0 b.first (one.stored v g) h) (λ v rd. rd) more

@@ -4,3 +4,8 @@ pub mod Numbers
 pub mod Shapes
 pub mod Defined
 pub mod Direct
+pub mod Members
+pub mod Along
+pub mod Laying
+pub mod Ranges
+pub mod Numbering

@@ -1,3 +1,4 @@
 pub mod Spots
 pub mod Bindings
 pub mod Numbers
+pub mod Laid

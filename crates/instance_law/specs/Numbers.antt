@@ -1,6 +1,9 @@
 -- Loops by their numbers, and the ranges of their variables.
-use Rattle.std.specs.Prelude.{◌≡◌, ℕ, Bool, true, false, ◌||◌, nat_eq, ℤ, pos, ◌+ℤ◌, ◌≤ℤ◌, List, [], ◌∷◌, Option, Some}
-use Rattle.fl_ast.specs.Tree.{Statement, assignment, branch, loop, Statements, no_statements, statement, Arms, no_arms, arm}
+use Rattle.std.specs.Prelude.{◌≡◌, ℕ, ◌<◌, Bool, true, false, ◌||◌, nat_eq, ℤ, pos, ◌+ℤ◌, ◌≤ℤ◌, List, [], ◌∷◌, Option, Some, Ok}
+use Rattle.fl_ast.specs.Tree.{Expression, Statement, assignment, branch, loop, Statements, no_statements, statement, Arms, no_arms, arm}
+use Rattle.meaning.specs.declared.value.IterationCount.{IterationCount}
+use Rattle.meaning.specs.Sites.{Cells, Site}
+use Rattle.meaning.specs.Statements.{turns_of, value_at}
 use Rattle.index_forms.specs.Form.{Atom, start, iter, inner, inv, version, read, opaque, start2, iter2}
 use Rattle.index_ranges.specs.Ranges.{KnownRange, loop_range}
 use Rattle.instance_law.specs.Bindings.{Binding}
@@ -39,6 +42,12 @@ abbrev mutual
 -- the value of a loop's variable lies in the loop's range, where it is known
 abbrev pub LiesIn : KnownRange → ℤ → Type 0
 LiesIn r z = (r.least ≤ℤ z) × (z ≤ℤ (r.least +ℤ pos r.width))
+
+-- in each turn
+abbrev pub RangesHold : Type 0
+RangesHold =
+    (site : Site) (cells : Cells) (low high : Expression) (step : Option Expression) (t : IterationCount) (m : ℕ) → (turns_of low high step site cells).out ≡ Ok t → m < t.count →
+    (number : ℕ) (r : KnownRange) → loop_range number low high step ≡ Some r → LiesIn r (value_at t m)
 
 abbrev pub IsInRange : (ℕ → Option KnownRange) → Atom → ℤ → Type 0
 IsInRange range (inner s l) z = (r : KnownRange) → range l ≡ Some r → LiesIn r z
