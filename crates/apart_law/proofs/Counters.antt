@@ -25,7 +25,7 @@ use Rattle.index_forms.proofs.Ints.{abs-positive}
 use Rattle.index_law.specs.Variables.{counter_value}
 use Rattle.index_law.specs.Starts.{HasCounters, HasFurther, StandsAtStart, IsBegun}
 use Rattle.index_law.proofs.Starts.{HeadsAre, heads_are}
-use Rattle.instance_law.proofs.Ranges.{second_holds}
+use Rattle.apart_law.proofs.Ranges.{second_holds}
 use Rattle.loop_scenes.specs.Turns.{last_turn_by, last_turn_of}
 use Rattle.certificate_rules.specs.Disjoint.{DifferentIterations}
 use Rattle.loop_pairs.specs.Known.{nest_of}

@@ -21,8 +21,8 @@ use Rattle.index_forms.specs.Formed.{subscript_forms}
 use Rattle.index_forms.specs.Loops.{HeadedLoop, inside, known_at_start, forms_scope}
 use Rattle.index_forms.specs.Walk.{loop_forms}
 use Rattle.index_law.specs.Meetings.{In, Evaluated, place_in}
-use Rattle.instance_law.specs.Spots.{Spot}
-use Rattle.instance_law.specs.Laid.{plain_scope}
+use Rattle.apart_law.specs.Spots.{Spot}
+use Rattle.apart_law.specs.Laid.{plain_scope}
 use Rattle.index_knowledge.specs.Knowledge.{KnownPair, is_read}
 use Rattle.certificate_rules.specs.Surveys.{numbered}
 use Rattle.certificate_rules.specs.Disjoint.{Disjoint}
@@ -31,7 +31,8 @@ use Rattle.loop_scenes.specs.Rights.{marked, rights_in}
 use Rattle.loop_pairs.specs.Known.{bare_accesses, survey_by, known_loop, nest_of}
 use Rattle.sharing_choice.specs.Choosing.{pairs_of}
 use Rattle.program_certificates.specs.Choices.{NeverMeet}
-use Rattle.apart_law.specs.Apart.{IsRun, IsDifferentiated}
+use Rattle.apart_law.specs.Apart.{IsDifferentiated}
+use Rattle.apart_law.proofs.Running.{IsRun}
 use Rattle.apart_law.proofs.Located.{Located, At, number_in, number_of, numbered_first, numbered_map, beside}
 use Rattle.apart_law.proofs.Pairs.{of_pairs}
 use Rattle.apart_law.proofs.Rights.{spot_rights, falses, AllBegin, begin_of_all, begins_in, rights_as_many, rights_of_all}

@@ -1,3 +1,15 @@
+pub mod Bound
+pub mod Leaves
+pub mod Numbers
+pub mod Shapes
+pub mod Defined
+pub mod Direct
+pub mod Members
+pub mod Along
+pub mod Laying
+pub mod Ranges
+pub mod Numbering
+pub mod Running
 pub mod Located
 pub mod Facts
 pub mod Rights
@@ -7,3 +19,4 @@ pub mod SpotPaths
 pub mod Places
 pub mod Respecting
 pub mod Differing
+pub mod Loops

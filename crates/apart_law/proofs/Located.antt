@@ -14,9 +14,9 @@ use Rattle.index_law.specs.Worth.{AgreesOn, AreIndices}
 use Rattle.index_law.specs.Meetings.{In}
 use Rattle.index_law.proofs.GroupKeys.{by_side}
 use Rattle.index_law.proofs.Meets.{in_left}
-use Rattle.instance_law.specs.Spots.{Spot, AllAgree}
-use Rattle.instance_law.specs.Laid.{places, accesses_at, forms_at, spot_forms, AreLaid}
-use Rattle.instance_law.proofs.Laying.{flat_both}
+use Rattle.apart_law.specs.Spots.{Spot, AllAgree}
+use Rattle.apart_law.specs.Laid.{places, accesses_at, forms_at, spot_forms, AreLaid}
+use Rattle.apart_law.proofs.Laying.{flat_both}
 use Rattle.certificate_rules.specs.Surveys.{numbered}
 
 -- ---- items by number

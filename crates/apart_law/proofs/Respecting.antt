@@ -48,21 +48,21 @@ use Rattle.index_law.proofs.Iterations.{iteration_out}
 use Rattle.index_law.proofs.Valuations.{valuations_stand}
 use Rattle.index_law.proofs.Shapes.{FromNumber}
 use Rattle.index_law.proofs.Meets.{in_right}
-use Rattle.instance_law.specs.Bindings.{Binding, Agrees, AreApart, same_side, is_atom, given, Lies}
-use Rattle.instance_law.specs.Numbers.{numbers_in, IsInRange, AreInRange, LiesIn}
-use Rattle.instance_law.specs.Spots.{Spot, spots_in, Met}
-use Rattle.instance_law.specs.Laid.{accesses_at, spot_forms, AreLaid, plainly}
-use Rattle.instance_law.proofs.Bound.{agrees_left, agrees_right, apart_both, separate_sides, themselves, themselves_both, list_agrees, same_values}
-use Rattle.instance_law.proofs.Direct.{set, RanAll, Told}
-use Rattle.instance_law.proofs.Along.{Found, key_all, found_all}
-use Rattle.instance_law.proofs.Laying.{accesses_of_all, laid_of_all, forms_of_all, spot_forms_long}
-use Rattle.instance_law.proofs.Ranges.{range_holds}
+use Rattle.apart_law.specs.Bindings.{Binding, Agrees, AreApart, same_side, is_atom, given, Lies}
+use Rattle.apart_law.specs.Numbers.{numbers_in, IsInRange, AreInRange, LiesIn}
+use Rattle.apart_law.specs.Spots.{Spot, spots_in, Met}
+use Rattle.apart_law.specs.Laid.{accesses_at, spot_forms, AreLaid, plainly}
+use Rattle.apart_law.proofs.Bound.{agrees_left, agrees_right, apart_both, separate_sides, themselves, themselves_both, list_agrees, same_values}
+use Rattle.apart_law.proofs.Direct.{set, RanAll, Told}
+use Rattle.apart_law.proofs.Along.{Found, key_all, found_all}
+use Rattle.apart_law.proofs.Laying.{accesses_of_all, laid_of_all, forms_of_all, spot_forms_long}
+use Rattle.apart_law.proofs.Ranges.{range_holds}
 use Rattle.certificate_rules.specs.Surveys.{Survey, numbered, range_of, IsSurvey, fact_serves}
 use Rattle.certificate_rules.specs.Disjoint.{DifferentIterations, Respects, Disjoint}
 use Rattle.index_knowledge.specs.Knowledge.{KnownFact, KnownPair, is_write, is_fact}
 use Rattle.loop_scenes.specs.Turns.{last_turn_of}
 use Rattle.loop_pairs.specs.Known.{bare, bare_accesses, survey_by, nest_of}
-use Rattle.apart_law.specs.Apart.{IsRun}
+use Rattle.apart_law.proofs.Running.{IsRun}
 use Rattle.apart_law.proofs.Located.{Located, located, At, number_of, beside, form_at, agrees_at, in_number}
 use Rattle.apart_law.proofs.Facts.{facts_of_two, one_writes, one_name, served}
 use Rattle.apart_law.proofs.Counters.{different, second_lies}

@@ -17,9 +17,9 @@ use Rattle.index_forms.specs.Loops.{written_in}
 use Rattle.index_forms.specs.Walk.{Setting, without, known_after, known_inside, bounds_reads}
 use Rattle.index_law.specs.Meetings.{In}
 use Rattle.index_law.proofs.GroupKeys.{split, by_side}
-use Rattle.instance_law.specs.Spots.{Spot, Rest, spot_at, bounds_accesses, spots_of, spots_in, spots_in_arms}
-use Rattle.instance_law.specs.Laid.{places, plain_scope}
-use Rattle.instance_law.proofs.Laying.{flat_both, places_long, reads_places, terms_places, condition_places, bounds_places, target_places}
+use Rattle.apart_law.specs.Spots.{Spot, Rest, spot_at, bounds_accesses, spots_of, spots_in, spots_in_arms}
+use Rattle.apart_law.specs.Laid.{places, plain_scope}
+use Rattle.apart_law.proofs.Laying.{flat_both, places_long, reads_places, terms_places, condition_places, bounds_places, target_places}
 use Rattle.loop_scenes.specs.Rights.{marked, rights_by, rights_in, rights_in_arms}
 use Rattle.certificate_rules.specs.Surveys.{numbered}
 

@@ -12,7 +12,7 @@ use Rattle.index_forms.specs.Walk.{Setting, without, known_after, known_inside}
 use Rattle.index_law.specs.Meetings.{In}
 use Rattle.index_law.proofs.GroupKeys.{split, by_side}
 use Rattle.index_law.proofs.Shapes.{assignment_path, condition_path, bounds_path}
-use Rattle.instance_law.specs.Spots.{Spot, Rest, bounds_accesses, spots_of, spots_in, spots_in_arms}
+use Rattle.apart_law.specs.Spots.{Spot, Rest, bounds_accesses, spots_of, spots_in, spots_in_arms}
 
 abbrev HaveItsPath : Spot → Type 0
 HaveItsPath x = (o : Occurrence) → In o x.accesses → o.path ≡ x.path

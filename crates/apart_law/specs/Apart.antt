@@ -2,32 +2,33 @@
 use Rattle.std.specs.Prelude.{◌≡◌, ◌≢◌, ℕ, ◌<◌, Bool, true, List, [], ◌∷◌, Some, Ok}
 use Rattle.std.specs.List.{AllByRecursion}
 use Rattle.fl_ast.specs.declared.decl.Decl.{Decl}
+use Rattle.fl_ast.specs.declared.stmt.Program.{Program}
+use Rattle.fl_ast.specs.Readable.{IsReadable}
+use Rattle.fl_ast.specs.Tree.{stmt_trees}
 use Rattle.fl_types.specs.declared.access.AccessKind.TheVariants.{Read}
 use Rattle.fl_types.specs.Sharing.{is_ring_name}
 use Rattle.meaning.specs.Sites.{Cells, Site, in_iteration}
 use Rattle.meaning.specs.Statements.{Heads, iterations, turns}
 use Rattle.meaning.specs.Reached.{iteration_cells, HoldsAtAll, IsSound}
 use Rattle.meaning.specs.Groups.{iteration_of}
-use Rattle.index_forms.specs.Loops.{HeadedLoop, inside}
+use Rattle.index_forms.specs.Loops.{HeadedLoop, headed_loops_of_all, inside}
 use Rattle.index_ranges.specs.Ranges.{ranges_in}
 use Rattle.index_law.specs.Meetings.{In, FreeRun, Evaluated, place_in}
 use Rattle.index_law.specs.Starts.{IsBegun}
-use Rattle.instance_law.specs.Numbers.{AreNumbered}
 use Rattle.certificate_rules.specs.Surveys.{IsSurvey, range_of}
 use Rattle.loop_pairs.specs.Known.{survey_by, known_loop}
 use Rattle.sharing_choice.specs.Choosing.{pairs_of}
 use Rattle.program_certificates.specs.Choices.{NeverMeet}
+use Rattle.apart_law.specs.Numbers.{AreNumbered}
 
--- an instance of a loop of a typed program, that ended without a conflict
-pub record IsRun (decls : List Decl) (l : HeadedLoop) (site : Site) (heads : Heads) (cells : Cells) : Type 0 where
+-- an instance of a parallel loop that comes to its end without a conflict, where each iteration is sound
+pub record IsInstance (decls : List Decl) (l : HeadedLoop) (site : Site) (heads : Heads) (cells : Cells) : Type 0 where
   pub begun : IsBegun l site heads cells
   pub outer : site.outer ≡ l.loop.outer
   pub ring : site.ring ≡ is_ring_name decls
-  pub free : FreeRun site l.loop heads cells
+  pub run : FreeRun site l.loop heads cells
   pub sound : (k : ℕ) → k < iterations heads → (c : Cells) → (turns k (iteration_of site l.loop heads) cells).out ≡ Ok c →
       HoldsAtAll IsSound (inside l) (in_iteration site l.loop.directive l.loop.var l.loop.body) (iteration_cells site l.loop.directive l.loop.var l.loop.body heads k c)
-  pub numbers : AreNumbered (λ n. range_of (ranges_in (inside l)) n) (inside l)
-  pub survey : IsSurvey (survey_by decls l)
 
 -- a read on the right side of an assignment to an active name that iteration k evaluates, at a place
 pub record IsDifferentiated (on : List ℕ → Bool) (site : Site) (l : HeadedLoop) (heads : Heads) (cells : Cells) (k p : ℕ) : Type 0 where
@@ -37,9 +38,22 @@ pub record IsDifferentiated (on : List ℕ → Bool) (site : Site) (l : HeadedLo
   pub reads : evaluated.access.kind ≡ Read
   pub falls : place_in site l.loop heads cells k evaluated ≡ Some p
 
--- where each pair of a name never meets, no two iterations read it at one place for active names
-abbrev pub ReadsAreApart : Type 0
-ReadsAreApart =
-    (decls : List Decl) (on : List ℕ → Bool) (l : HeadedLoop) (site : Site) (heads : Heads) (cells : Cells) → IsRun decls l site heads cells →
-    (x : List ℕ) → AllByRecursion (NeverMeet (known_loop decls on l)) (pairs_of (x ∷ []) (known_loop decls on l)) →
-    (i j p : ℕ) → i ≢ j → (a : IsDifferentiated on site l heads cells i p) → IsDifferentiated on site l heads cells j p → a.evaluated.access.place.name ≡ x → ⊥
+-- no loop in it has the number of one around it, and its ranges are found by the loops' numbers
+abbrev pub HasOwnNumbers : HeadedLoop → Type 0
+HasOwnNumbers l = AreNumbered (λ n. range_of (ranges_in (inside l)) n) (inside l)
+
+-- where the pairs of a name in the loop never meet, no two iterations of an instance have differentiated reads of it at one place
+abbrev pub LoopIsApart : List Decl → (active : List ℕ → Bool) → HeadedLoop → Type 0
+LoopIsApart decls active l =
+    (site : Site) (heads : Heads) (cells : Cells) → IsInstance decls l site heads cells → IsSurvey (survey_by decls l)
+    → (x : List ℕ) → AllByRecursion (NeverMeet (known_loop decls active l)) (pairs_of (x ∷ []) (known_loop decls active l))
+    → (i j p : ℕ) → i ≢ j → (a : IsDifferentiated active site l heads cells i p) → IsDifferentiated active site l heads cells j p
+    → a.evaluated.access.place.name ≡ x → ⊥
+
+-- so each loop whose numbers are its own
+abbrev pub LoopsAreApart : Type 0
+LoopsAreApart = (decls : List Decl) (active : List ℕ → Bool) (l : HeadedLoop) → HasOwnNumbers l → LoopIsApart decls active l
+
+-- and so are the numbers of a program that some text reads as
+abbrev pub NumbersAreOwn : Type 0
+NumbersAreOwn = (p : Program) → IsReadable p → (l : HeadedLoop) → In l (headed_loops_of_all [] (stmt_trees p.body)) → HasOwnNumbers l

@@ -1,7 +1,20 @@
-//! Laws.
+//! Laws on the definitions of what is known of loops, and of runs.
 
-ghost use Rattle.std.specs.Prelude.{◌≡◌, true};
+ghost use Rattle.apart_law.specs.Apart.{LoopsAreApart, NumbersAreOwn};
+ghost use Rattle.apart_law.specs.Numbers.{RangesHold};
 
-pub fn nothing_yet()
-    ensures { true ≡ true }
+/// Where each pair of a name in a loop is shown, no two iterations of an instance of the loop that ended without a conflict read the name at
+/// one place for active names. It does nothing.
+pub fn loops_are_apart()
+    ensures { LoopsAreApart }
+{}
+
+/// The loops of a program that some text reads as have numbers of their own. It does nothing.
+pub fn numbers_are_own()
+    ensures { NumbersAreOwn }
+{}
+
+/// The variable of a loop with literal bounds lies in the loop's range in each turn. It does nothing.
+pub fn ranges_hold()
+    ensures { RangesHold }
 {}

@@ -1,6 +1,7 @@
-//! Why reads of a name whose pairs are shown never fall on one place in different iterations.
+//! Why reads of a name whose pairs are shown never fall on one place in different iterations: one valuation has the values of both accesses and
+//! of all that serve them.
 #![tactic(auto)]
 
 mod laws;
 
-pub use laws::nothing_yet;
+pub use laws::{loops_are_apart, numbers_are_own, ranges_hold};

@@ -16,7 +16,7 @@ loop_or d None = d
 loop_or d (Some None) = d
 loop_or d (Some (Some k)) = k
 
-survey_at : (ls : Loops) → AreSurveys ls → (n : ℕ) (k : KnownLoop) → numbered ls n ≡ Some (Some k) → IsSurvey k.survey
+pub survey_at : (ls : Loops) → AreSurveys ls → (n : ℕ) (k : KnownLoop) → numbered ls n ≡ Some (Some k) → IsSurvey k.survey
 survey_at ls w zero k h = cc
 survey_at [] w (suc n) k h = cc
 survey_at (None ∷ ls) w (suc zero) k h = cc

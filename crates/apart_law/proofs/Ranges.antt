@@ -26,7 +26,7 @@ use Rattle.index_forms.specs.Loops.{literal_number, signed_number, step_number}
 use Rattle.index_law.proofs.Nodes.{exact_is, literal_is}
 use Rattle.index_ranges.specs.Ranges.{KnownRange, range_of, range_by, loop_range}
 use Rattle.loop_scenes.specs.Turns.{last_turn, last_turn_by, last_turn_of}
-use Rattle.instance_law.specs.Numbers.{LiesIn}
+use Rattle.apart_law.specs.Numbers.{LiesIn}
 
 -- ---- what literals are worth
 

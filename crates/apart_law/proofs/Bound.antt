@@ -7,7 +7,7 @@ use Rattle.std.proofs.lemmas.Slice.Eq.{bytes_eq-Decides}
 use Rattle.index_forms.specs.declared.form.Side.{Side}
 use Rattle.index_forms.specs.declared.form.Side.TheVariants.{One, Two}
 use Rattle.index_forms.specs.Form.{Atom, start, iter, inner, inv, version, read, opaque, start2, iter2}
-use Rattle.instance_law.specs.Bindings.{Binding, Agrees, IsAbsent, AreApart, same_side, is_atom, given, Lies, AllHave, AllLie}
+use Rattle.apart_law.specs.Bindings.{Binding, Agrees, IsAbsent, AreApart, same_side, is_atom, given, Lies, AllHave, AllLie}
 
 -- ---- parts of lists
 

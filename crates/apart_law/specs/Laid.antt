@@ -5,7 +5,7 @@ use Rattle.fl_types.specs.Accesses.{Scope, Occurrence}
 use Rattle.index_forms.specs.Form.{Forms}
 use Rattle.index_forms.specs.Formed.{Known, subscript_forms}
 use Rattle.index_forms.specs.Walk.{Setting, viewed}
-use Rattle.instance_law.specs.Spots.{Spot}
+use Rattle.apart_law.specs.Spots.{Spot}
 
 abbrev pub places : List Occurrence → List Designator
 places os = map (λ (o : Occurrence). o.place) os

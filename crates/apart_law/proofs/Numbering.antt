@@ -14,7 +14,7 @@ use Rattle.index_ranges.specs.Ranges.{KnownRange, range_by, loop_range, listed, 
 use Rattle.certificate_rules.specs.Surveys.{range_of}
 use Rattle.index_law.specs.Meetings.{In}
 use Rattle.index_law.proofs.GroupKeys.{split, by_side}
-use Rattle.instance_law.specs.Numbers.{numbers_by, numbers_in, numbers_in_arms, IsNumbered, AreNumbered, AreNumberedArms}
+use Rattle.apart_law.specs.Numbers.{numbers_by, numbers_in, numbers_in_arms, IsNumbered, AreNumbered, AreNumberedArms}
 
 -- ---- trees whose loops are numbered in order
 

@@ -13,7 +13,7 @@ use Rattle.index_law.specs.Meetings.{In}
 use Rattle.index_law.specs.Paths.{LeadsTo}
 use Rattle.index_law.proofs.GroupKeys.{split, by_side}
 use Rattle.index_law.proofs.Shapes.{number_of, arm_of, AtNumber, FromNumber, FromArm}
-use Rattle.instance_law.specs.Spots.{Spot, Rest, bounds_accesses, spots_of, spots_in, spots_in_arms}
+use Rattle.apart_law.specs.Spots.{Spot, Rest, bounds_accesses, spots_of, spots_in, spots_in_arms}
 
 abbrev pub Beneath : (List PathStep → Type 0) → List PathStep → Spot → Type 0
 Beneath P path x = (r : List PathStep) × (x.path ≡ path ++ r) × P r

@@ -9,8 +9,8 @@ use Rattle.index_forms.specs.declared.form.Side.{Side}
 use Rattle.index_forms.specs.Form.{Atom, start, iter, inner, inv, version, read, opaque, start2, iter2, Form, form, no_terms}
 use Rattle.index_forms.specs.Formed.{Known, Viewed, Formed, FormedAll, atom_form, opaque_node, node, if_narrow, negative, linear, element_node, formed, formed_all}
 use Rattle.index_forms.specs.Walk.{Setting, viewed}
-use Rattle.instance_law.specs.Bindings.{Binding, IsAbsent, AreApart, Lies, AllHave, AllLie, no_loops, node_value, leaf_binding, leaf_bindings, group_bindings}
-use Rattle.instance_law.proofs.Bound.{have_both, have_weaker, lie_wider, apart_both, Separate, separate_after}
+use Rattle.apart_law.specs.Bindings.{Binding, IsAbsent, AreApart, Lies, AllHave, AllLie, no_loops, node_value, leaf_binding, leaf_bindings, group_bindings}
+use Rattle.apart_law.proofs.Bound.{have_both, have_weaker, lie_wider, apart_both, Separate, separate_after}
 
 -- an opaque atom of one access, whose number is above n and at most m
 abbrev Between : Side → ℕ → (n m : ℕ) → Atom → Type 0

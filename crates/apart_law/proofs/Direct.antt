@@ -36,13 +36,13 @@ use Rattle.index_law.proofs.Meets.{in_left, in_right}
 use Rattle.index_law.proofs.Steps.{or_first, or_second, known_after_holds}
 use Rattle.index_law.proofs.Fixed.{fixed_after}
 use Rattle.index_law.proofs.Shapes.{number_of, AtNumber, FromNumber, FromArm}
-use Rattle.instance_law.specs.Bindings.{Binding, Agrees, AreApart, Lies, AllHave, AllLie, no_loops, index_of, group_bindings}
-use Rattle.instance_law.specs.Spots.{Spot, spot_at, bounds_accesses, spots_of, spots_in, spots_in_arms, Met}
-use Rattle.instance_law.proofs.Bound.{agrees_left, agrees_right, lie_both, lie_wider, absent_in, apart_both, separate_after}
-use Rattle.instance_law.proofs.Leaves.{AllDefined, group_agrees}
-use Rattle.instance_law.proofs.Numbers.{group_lies, group_apart}
-use Rattle.instance_law.proofs.Defined.{condition_defined, assignment_defined, bounds_defined}
-use Rattle.instance_law.proofs.Shapes.{Beneath, joined, rests, counted, Outside, outside_first, outside_second, not_outside, beneath_all, beneath_arms}
+use Rattle.apart_law.specs.Bindings.{Binding, Agrees, AreApart, Lies, AllHave, AllLie, no_loops, index_of, group_bindings}
+use Rattle.apart_law.specs.Spots.{Spot, spot_at, bounds_accesses, spots_of, spots_in, spots_in_arms, Met}
+use Rattle.apart_law.proofs.Bound.{agrees_left, agrees_right, lie_both, lie_wider, absent_in, apart_both, separate_after}
+use Rattle.apart_law.proofs.Leaves.{AllDefined, group_agrees}
+use Rattle.apart_law.proofs.Numbers.{group_lies, group_apart}
+use Rattle.apart_law.proofs.Defined.{condition_defined, assignment_defined, bounds_defined}
+use Rattle.apart_law.proofs.Shapes.{Beneath, joined, rests, counted, Outside, outside_first, outside_second, not_outside, beneath_all, beneath_arms}
 
 pub has_both : (x : List ℕ) (xs ys : List (List ℕ)) → has_name x (xs ++ ys) ≡ (has_name x xs || has_name x ys)
 has_both x [] ys = refl

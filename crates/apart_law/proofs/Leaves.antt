@@ -17,9 +17,9 @@ use Rattle.index_forms.specs.Walk.{Setting, viewed}
 use Rattle.index_law.specs.Worth.{HoldsKnown, AgreesOn, AreIndices}
 use Rattle.index_law.specs.Valuations.{HasReads, HoldsFixed, HasIndexSubscripts, NodeAgrees, NodesAgree}
 use Rattle.index_law.proofs.Elements.{element_values}
-use Rattle.instance_law.specs.Bindings.{Binding, Agrees, IsAbsent, AreApart, Lies, AllLie, index_of, node_value, leaf_binding, leaf_bindings, group_bindings}
-use Rattle.instance_law.specs.Spots.{AllAgree}
-use Rattle.instance_law.proofs.Bound.{agrees_left, agrees_right, lie_both, lie_wider, apart_both, separate_after, Separate}
+use Rattle.apart_law.specs.Bindings.{Binding, Agrees, IsAbsent, AreApart, Lies, AllLie, index_of, node_value, leaf_binding, leaf_bindings, group_bindings}
+use Rattle.apart_law.specs.Spots.{AllAgree}
+use Rattle.apart_law.proofs.Bound.{agrees_left, agrees_right, lie_both, lie_wider, apart_both, separate_after, Separate}
 
 -- ---- subscripts are of the index kind
 

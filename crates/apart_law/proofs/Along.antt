@@ -37,15 +37,15 @@ use Rattle.index_law.proofs.Meets.{in_left, in_right}
 use Rattle.index_law.proofs.Steps.{or_first, or_second, or_both, known_less, known_after_holds, known_inside_holds}
 use Rattle.index_law.proofs.Fixed.{fixed_inside}
 use Rattle.index_law.proofs.Shapes.{number_of, arm_of, AtNumber, FromNumber, FromArm}
-use Rattle.instance_law.specs.Bindings.{Binding, Agrees, AreApart, Lies, AllLie, no_loops, group_bindings}
-use Rattle.instance_law.specs.Numbers.{numbers_by, numbers_in, numbers_in_arms, IsNumbered, AreNumbered, AreNumberedArms, IsInRange, AreInRange, RangesHold}
-use Rattle.instance_law.specs.Spots.{Spot, spot_at, bounds_accesses, spots_of, spots_in, spots_in_arms, Met}
-use Rattle.instance_law.proofs.Bound.{agrees_left, agrees_right, lie_both, lie_wider, absent_in, apart_both, separate_after}
-use Rattle.instance_law.proofs.Leaves.{AllDefined}
-use Rattle.instance_law.proofs.Defined.{condition_defined, bounds_defined}
-use Rattle.instance_law.proofs.Shapes.{Beneath, beneath_here, beneath_weaker, beneath_deeper, arm_number, later_arm, at_from, later_from, in_this_arm, test_beneath, joined, rests, same_head, counted, Outside, outside_behind, outside_before, beneath_one, beneath_all, beneath_arms}
-use Rattle.instance_law.proofs.Direct.{set, Ran, RanAll, Told, ToldOne, has_both, own_met, group_told, more_spots, assigned_told, one_told, first_ran, rest_ran, then_told, in_both, in_first, in_rest, all_told}
-use Rattle.instance_law.proofs.Members.{in_result, of_result, turn_of, in_turns}
+use Rattle.apart_law.specs.Bindings.{Binding, Agrees, AreApart, Lies, AllLie, no_loops, group_bindings}
+use Rattle.apart_law.specs.Numbers.{numbers_by, numbers_in, numbers_in_arms, IsNumbered, AreNumbered, AreNumberedArms, IsInRange, AreInRange, RangesHold}
+use Rattle.apart_law.specs.Spots.{Spot, spot_at, bounds_accesses, spots_of, spots_in, spots_in_arms, Met}
+use Rattle.apart_law.proofs.Bound.{agrees_left, agrees_right, lie_both, lie_wider, absent_in, apart_both, separate_after}
+use Rattle.apart_law.proofs.Leaves.{AllDefined}
+use Rattle.apart_law.proofs.Defined.{condition_defined, bounds_defined}
+use Rattle.apart_law.proofs.Shapes.{Beneath, beneath_here, beneath_weaker, beneath_deeper, arm_number, later_arm, at_from, later_from, in_this_arm, test_beneath, joined, rests, same_head, counted, Outside, outside_behind, outside_before, beneath_one, beneath_all, beneath_arms}
+use Rattle.apart_law.proofs.Direct.{set, Ran, RanAll, Told, ToldOne, has_both, own_met, group_told, more_spots, assigned_told, one_told, first_ran, rest_ran, then_told, in_both, in_first, in_rest, all_told}
+use Rattle.apart_law.proofs.Members.{in_result, of_result, turn_of, in_turns}
 
 longer : (path : List PathStep) (t : PathStep) (r : List PathStep) → path ≡ path ++ t ∷ r → ⊥
 longer [] t r e = cc

@@ -6,7 +6,7 @@ use Rattle.meaning.specs.Sites.{Cells, Site}
 use Rattle.meaning.specs.Statements.{turns_of, value_at}
 use Rattle.index_forms.specs.Form.{Atom, start, iter, inner, inv, version, read, opaque, start2, iter2}
 use Rattle.index_ranges.specs.Ranges.{KnownRange, loop_range}
-use Rattle.instance_law.specs.Bindings.{Binding}
+use Rattle.apart_law.specs.Bindings.{Binding}
 
 -- a loop with this number is in a tree
 abbrev mutual

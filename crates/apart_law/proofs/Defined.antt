@@ -11,8 +11,8 @@ use Rattle.meaning.specs.Sites.{Cells, Site}
 
 use Rattle.meaning.specs.Defined.{IsDefined, AreDefined, IsDefinedCondition}
 use Rattle.meaning.specs.Reached.{AreDefinedTerms, IsDefinedAssignment, IsIndexStep}
-use Rattle.instance_law.proofs.Leaves.{AllDefined}
-use Rattle.instance_law.specs.Spots.{bounds_accesses}
+use Rattle.apart_law.proofs.Leaves.{AllDefined}
+use Rattle.apart_law.specs.Spots.{bounds_accesses}
 
 module _ (site : Site) (cells : Cells) where
   pub all_both : (os ps : List Occurrence) → AllDefined site cells os → AllDefined site cells ps → AllDefined site cells (os ++ ps)

@@ -13,8 +13,8 @@ use Rattle.index_forms.specs.Form.{Forms}
 use Rattle.index_forms.specs.Formed.{Known, subscript_forms}
 use Rattle.index_forms.specs.Loops.{written_in}
 use Rattle.index_forms.specs.Walk.{Setting, viewed, without, known_after, known_inside, with_group, bounds_reads, with_statement, with_statements, with_arms, Rest as FormsRest}
-use Rattle.instance_law.specs.Spots.{Spot, Rest, bounds_accesses, spots_of, spots_in, spots_in_arms}
-use Rattle.instance_law.specs.Laid.{places, accesses_at, forms_at, spot_forms, AreLaid, plain_scope, plainly}
+use Rattle.apart_law.specs.Spots.{Spot, Rest, bounds_accesses, spots_of, spots_in, spots_in_arms}
+use Rattle.apart_law.specs.Laid.{places, accesses_at, forms_at, spot_forms, AreLaid, plain_scope, plainly}
 
 pub flat_both : {B : Type 0} (f : Spot → List B) (xs ys : List Spot) → flat_map f (xs ++ ys) ≡ flat_map f xs ++ flat_map f ys
 flat_both f [] ys = refl

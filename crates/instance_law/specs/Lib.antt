@@ -1,4 +1,0 @@
-pub mod Spots
-pub mod Bindings
-pub mod Numbers
-pub mod Laid

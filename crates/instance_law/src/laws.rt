@@ -1,7 +1,0 @@
-//! Laws.
-
-ghost use Rattle.std.specs.Prelude.{◌≡◌, true};
-
-pub fn nothing_yet()
-    ensures { true ≡ true }
-{}

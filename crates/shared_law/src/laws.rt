@@ -1,0 +1,17 @@
+ghost use Rattle.shared_law.specs.Apart.{KnownChoicesFit, ReadsAreApart, ReadsAreEvaluated};
+
+/// The choices that go by what is known of a program's loops fit. It does nothing.
+pub fn known_choices_fit()
+    ensures { KnownChoicesFit }
+{}
+
+/// With these choices, in the run of an accepted program that nothing stops, no two iterations of a parallel loop have differentiated reads
+/// of a name with the choice Shared at one place, where that holds of each loop by what is known of it. It does nothing.
+pub fn reads_are_apart()
+    ensures { ReadsAreApart }
+{}
+
+/// Each differentiated read that the log of an iteration tells is one that the iteration evaluates, of the name of its place. It does nothing.
+pub fn reads_are_evaluated()
+    ensures { ReadsAreEvaluated }
+{}

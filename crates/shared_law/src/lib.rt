@@ -1,0 +1,6 @@
+//! Why differentiated reads of names with the choice Shared are apart: along a run that nothing stops, by what is shown of each loop.
+#![tactic(auto)]
+
+mod laws;
+
+pub use laws::{known_choices_fit, reads_are_apart, reads_are_evaluated};
