@@ -20,6 +20,8 @@ use Rattle.transposition.specs.Calms.{IsCalmAll}
 use Rattle.transposition.proofs.Passing.{unstopped}
 use Rattle.transposition.proofs.Transposed.{along_along, Turned, turned}
 use Rattle.index_forms.specs.Loops.{HeadedLoop, headed_loops_of_all}
+use Rattle.index_law.specs.Meetings.{In}
+use Rattle.reachability.specs.Reached.{IsAmong}
 use Rattle.certificate_rules.specs.Surveys.{numbered}
 use Rattle.certificate_check.specs.Pairs.{KnownLoop}
 use Rattle.loop_pairs.specs.Known.{known_loop, known_of, AreSurveys}
@@ -37,6 +39,7 @@ use Rattle.sound_programs.proofs.PlacedNames.{IsCleanBody}
 use Rattle.sound_programs.proofs.Programs.{clean_body, programs_sound}
 use Rattle.sound_programs.proofs.Collecting.{choices_fit}
 use Rattle.sound_programs.proofs.Transposing.{apart_all}
+use Rattle.apart_law.proofs.Loops.{loops_apart, numbers_own}
 use Rattle.shared_law.specs.Apart.{ReadsAreApart}
 use Rattle.shared_law.proofs.Loops.{lone_all}
 use Rattle.shared_law.proofs.Choices.{never_meets}
@@ -48,11 +51,16 @@ every P [] a x i = absurd i
 every P (y ∷ xs) a x (inl e) = subst P e a.0
 every P (y ∷ xs) a x (inr i) = every P xs a.1 x i
 
+in_among : (ls : List HeadedLoop) (l : HeadedLoop) → IsAmong ls l → In l ls
+in_among [] l i = absurd i
+in_among (k ∷ ls) l (inl e) = inl e
+in_among (k ∷ ls) l (inr i) = inr (in_among ls l i)
+
 one_known : (k l : KnownLoop) (o : Option (Option KnownLoop)) → o ≡ Some (Some k) → o ≡ Some (Some l) → k ≡ l
 one_known k l o e f = let g : Some (Some k) ≡ Some (Some l) = sym e ∙ f in cc
 
 pub reads_apart : ReadsAreApart
-reads_apart p of wrt values givens limits words s2 j a kept loops small run stop =
+reads_apart p of wrt values givens limits words s2 j a small run stop =
     all_apart p.decls w v (stmt_trees p.body) site sj t.s3 refl shown
     (runs_sound (stmt_trees p.body) site sj (programs_kinded p values (is_needed p on) c.typed.once c.typed.arrays c.typed.kinds)
     (entries_fit (program_tree p) (shapes_of p values) (is_needed p on) words (unit j) small))
@@ -91,7 +99,7 @@ reads_apart p of wrt values givens limits words s2 j a kept loops small run stop
     t = turned (run_all (stmt_trees p.body) site sj).out (run_all (stmt_trees p.body) site s).out s2 run unseen.1
 
     calm : IsCalmAll (stmt_trees p.body) v sj
-    calm = unstopped v (outer_use p of wrt) (stmt_trees p.body) limits sj t.s3 (programs_sound p of wrt values (made_choices p of wrt) a kept fit.fitting)
+    calm = unstopped v (outer_use p of wrt) (stmt_trees p.body) limits sj t.s3 (programs_sound p of wrt values (made_choices p of wrt) a fit.fitting)
         t.out (subst (λ (l : Log). first_stop by_conflict limits (events l) ≡ at_end) unseen.0 stop) (apart_all (stmt_trees p.body) v sj fit.one_step)
 
     -- what is known of a loop stands at its number
@@ -113,6 +121,6 @@ reads_apart p of wrt values givens limits words s2 j a kept loops small run stop
               one_known never.known (known_loop p.decls on l) (numbered (known_of p on) l.loop.number) never.stands (stands l i) in
               let one = reads_evaluated p.decls on l site heads cells lone.flat h x q b e in
               let two = reads_evaluated p.decls on l site heads cells lone.flat h y q d f in
-              loops l i site heads cells h (survey_at (known_of p on) surveys l.loop.number (known_loop p.decls on l) (stands l i)) (name_at site.keys q)
+              loops_apart p.decls on l (numbers_own p a.readable l (in_among (headed_loops_of_all [] (stmt_trees p.body)) l i)) site heads cells h (survey_at (known_of p on) surveys l.loop.number (known_loop p.decls on l) (stands l i)) (name_at site.keys q)
               (subst (λ (k : KnownLoop). AllByRecursion (NeverMeet k) (pairs_of (name_at site.keys q ∷ []) k)) same never.apart) x y q n one.0 two.0 one.1,
         )

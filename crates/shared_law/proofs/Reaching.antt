@@ -29,7 +29,7 @@ use Rattle.meaning.specs.Statements.{private_names}
 use Rattle.index_forms.specs.Loops.{HeadedLoop, headed_loops, headed_loops_of_all, headed_loops_of_arms, inside as statements_of, further}
 use Rattle.index_law.specs.Meetings.{FreeRun}
 use Rattle.sound_programs.proofs.Lists.{Each, each_left, each_right}
-use Rattle.shared_law.specs.Apart.{IsInstance}
+use Rattle.apart_law.specs.Apart.{IsInstance}
 use Rattle.shared_law.proofs.Free.{ArePassages, ArePeaceful, no_conflict}
 use Rattle.shared_law.proofs.Loops.{IsLone}
 

@@ -6,7 +6,7 @@ pub fn known_choices_fit()
 {}
 
 /// With these choices, in the run of an accepted program that nothing stops, no two iterations of a parallel loop have differentiated reads
-/// of a name with the choice Shared at one place, where that holds of each loop by what is known of it. It does nothing.
+/// of a name with the choice Shared at one place. It does nothing.
 pub fn reads_are_apart()
     ensures { ReadsAreApart }
 {}
