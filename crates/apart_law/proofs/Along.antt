@@ -1,5 +1,5 @@
 -- For each group that a run came to, values for atoms, with which each spot on the path to it is met.
-use Rattle.std.proofs.Common.{◌≡◌, ℕ, zero, suc, ◌+◌, ◌<◌, ◌≤◌, Bool, true, false, ◌⊎◌, ℤ, List, [], ◌∷◌, ◌++◌, length, refl, ap, sym, ◌∙◌, subst, arith, append_assoc, length-append, Option, Some, None, Result, Ok}
+use Rattle.std.proofs.Common.{◌≡◌, ℕ, zero, suc, ◌+◌, ◌≤◌, Bool, true, false, ◌⊎◌, ℤ, List, [], ◌∷◌, ◌++◌, length, refl, ap, sym, ◌∙◌, subst, arith, append_assoc, length-append, Option, Some, None, Ok}
 use mathlib.Core.Logic.{inl, inr}
 use Rattle.std.specs.Prelude.{◌||◌, cond, if◌then◌else◌, nat_eq, bytes_eq}
 use Rattle.std.proofs.lemmas.Bool.{and_parts}
@@ -7,24 +7,23 @@ use Rattle.std.proofs.lemmas.Bool.Decides.{nat_tests}
 use Rattle.fl_ast.specs.Tree.{Expression, Designator, Condition, Statement, assignment, branch, loop, Statements, no_statements, statement, Arms, no_arms, arm}
 use Rattle.fl_types.specs.declared.access.PathStep.{PathStep}
 use Rattle.fl_types.specs.declared.access.PathStep.TheVariants.{Arm, Test, Body}
-use Rattle.fl_types.specs.Increment.{increment_terms}
 use Rattle.fl_types.specs.Sharing.{has_name}
-use Rattle.fl_types.specs.Accesses.{Scope, Occurrence, reads, step_reads, condition_reads, accesses, accesses_all, arms_accesses, statement_count, statements_count, arms_count, test_path}
+use Rattle.fl_types.specs.Accesses.{Occurrence, condition_reads, accesses, accesses_all, arms_accesses, statement_count, statements_count, arms_count, test_path}
 use Rattle.meaning.specs.declared.value.IterationCount.{IterationCount}
 use Rattle.meaning.specs.Sites.{Cells, Site, in_turn}
 use Rattle.meaning.specs.Expressions.{holds}
 use Rattle.meaning.specs.Statements.{Run, turns_of, value_at, turns, one_turn, run, run_all, run_arms}
 use Rattle.meaning.specs.Sequential.{is_sequential, are_sequential, are_arms_sequential}
 use Rattle.meaning.specs.Touches.{scope_at}
-use Rattle.meaning.specs.Reached.{cells_with, HoldsAtEach, HoldsAtAll, HoldsInArms, IsSound, AreDefinedTests}
+use Rattle.meaning.specs.Reached.{cells_with, HoldsAtAll, HoldsInArms, IsSound, AreDefinedTests}
 use Rattle.meaning.specs.Groups.{Group, group_at, assignment_group, groups_from, groups_of_turns, groups_of, groups_of_all, groups_of_arms}
 use Rattle.meaning.proofs.Parts.{bound, result_once, loop_run, turn_run, arm_run, other_run}
 use Rattle.meaning.proofs.GroupReadings.{append_nil}
 use Rattle.index_forms.specs.declared.form.Side.{Side}
 use Rattle.index_forms.specs.Form.{Atom, start, iter, inner, inv, version, read, opaque, start2, iter2}
 use Rattle.index_forms.specs.Formed.{Known}
-use Rattle.index_forms.specs.Loops.{written_by, written_in, written_in_arms}
-use Rattle.index_forms.specs.Walk.{Setting, without, known_after, known_inside}
+use Rattle.index_forms.specs.Loops.{written_in, written_in_arms}
+use Rattle.index_forms.specs.Walk.{without, known_after, known_inside}
 use Rattle.index_ranges.specs.Ranges.{KnownRange}
 use Rattle.index_law.specs.Worth.{HoldsKnown}
 use Rattle.index_law.specs.Meetings.{In}
@@ -36,15 +35,15 @@ use Rattle.index_law.proofs.GroupKeys.{split, by_side}
 use Rattle.index_law.proofs.Meets.{in_left, in_right}
 use Rattle.index_law.proofs.Steps.{or_first, or_second, or_both, known_less, known_after_holds, known_inside_holds}
 use Rattle.index_law.proofs.Fixed.{fixed_inside}
-use Rattle.index_law.proofs.Shapes.{number_of, arm_of, AtNumber, FromNumber, FromArm}
-use Rattle.apart_law.specs.Bindings.{Binding, Agrees, AreApart, Lies, AllLie, no_loops, group_bindings}
+use Rattle.index_law.proofs.Shapes.{arm_of, AtNumber, FromNumber, FromArm}
+use Rattle.apart_law.specs.Bindings.{Binding, Agrees, Lies, AllLie, no_loops}
 use Rattle.apart_law.specs.Numbers.{numbers_by, numbers_in, numbers_in_arms, IsNumbered, AreNumbered, AreNumberedArms, IsInRange, AreInRange, RangesHold}
 use Rattle.apart_law.specs.Spots.{Spot, spot_at, bounds_accesses, spots_of, spots_in, spots_in_arms, Met}
-use Rattle.apart_law.proofs.Bound.{agrees_left, agrees_right, lie_both, lie_wider, absent_in, apart_both, separate_after}
+use Rattle.apart_law.proofs.Bound.{agrees_left, agrees_right, lie_wider, absent_in}
 use Rattle.apart_law.proofs.Leaves.{AllDefined}
 use Rattle.apart_law.proofs.Defined.{condition_defined, bounds_defined}
-use Rattle.apart_law.proofs.Shapes.{Beneath, beneath_here, beneath_weaker, beneath_deeper, arm_number, later_arm, at_from, later_from, in_this_arm, test_beneath, joined, rests, same_head, counted, Outside, outside_behind, outside_before, beneath_one, beneath_all, beneath_arms}
-use Rattle.apart_law.proofs.Direct.{set, Ran, RanAll, Told, ToldOne, has_both, own_met, group_told, more_spots, assigned_told, one_told, first_ran, rest_ran, then_told, in_both, in_first, in_rest, all_told}
+use Rattle.apart_law.proofs.Shapes.{Beneath, beneath_weaker, beneath_deeper, arm_number, later_arm, at_from, later_from, in_this_arm, test_beneath, joined, rests, same_head, counted, outside_behind, outside_before, beneath_all, beneath_arms}
+use Rattle.apart_law.proofs.Direct.{set, Ran, RanAll, Told, has_both, own_met, group_told, assigned_told, one_told, first_ran, rest_ran, then_told, in_both, in_first, in_rest, all_told}
 use Rattle.apart_law.proofs.Members.{in_result, of_result, turn_of, in_turns}
 
 longer : (path : List PathStep) (t : PathStep) (r : List PathStep) → path ≡ path ++ t ∷ r → ⊥
@@ -305,7 +304,7 @@ module _ (side : Side) (fixed : List ℕ → Bool) (before : Cells) (range : ℕ
       let q : (has_name x xs || has_name x ys) ≡ false = sym (has_both x xs ys) ∙ or_first (has_name x (xs ++ ys)) (has_name x zs) p in
       has_both x ys zs ∙ or_both (has_name x ys) (has_name x zs) (or_second (has_name x xs) (has_name x ys) q) (or_second (has_name x (xs ++ ys)) (has_name x zs) p)
 
-  taken_as : (R S : Type 0) (b : Bool) → cond b R S → (b ≡ true → R) 
+  taken_as : (R S : Type 0) (b : Bool) → cond b R S → (b ≡ true → R)
   taken_as R S true h e = h
   taken_as R S false h e = cc
 
@@ -535,12 +534,12 @@ module _ (side : Side) (fixed : List ℕ → Bool) (before : Cells) (range : ℕ
           lies = (
             (refl, or_left (nat_eq number number) (numbers_in body number) (itself number)),
             lie_wider side (n + 1) (n + 1 + statements_count body) (a + length os) (a + length os + length inner_accesses) (n + 1) (n + 1 + statements_count body) (a + length os) (a + length os + length inner_accesses) (numbers_in body) (numbers_by whole) (omega arith) (omega arith) (omega arith) (omega arith)
-            (λ l h. or_right (nat_eq l number) (numbers_in body l) h) i.told.bindings i.told.lies,
+                (λ l h. or_right (nat_eq l number) (numbers_in body l) h) i.told.bindings i.told.lies,
           );
           apart = (
             absent_in (λ (x : Atom). inner side number ≡ x) (Lies side (n + 1) (n + 1 + statements_count body) (a + length os) (a + length os + length inner_accesses) (numbers_in body))
-            (λ x e q. (let p = subst (λ (y : Atom). Lies side (n + 1) (n + 1 + statements_count body) (a + length os) (a + length os + length inner_accesses) (numbers_in body) y) (sym e) q in let o : false ≡ true = sym num.0 ∙ p.1 in cc))
-            (inner side number) refl i.told.bindings i.told.lies,
+                (λ x e q. (let p = subst (λ (y : Atom). Lies side (n + 1) (n + 1 + statements_count body) (a + length os) (a + length os + length inner_accesses) (numbers_in body) y) (sym e) q in let o : false ≡ true = sym num.0 ∙ p.1 in cc))
+                (inner side number) refl i.told.bindings i.told.lies,
             i.told.apart,
           );
           met = λ v w h rd x q lead. let o = i.told.met v w.1 (turn_known v w.0 h) rd x q lead in (o.0, into o.0 o.1, o.2);

@@ -1,13 +1,13 @@
 -- Different iterations have different counters, and the counter of a collapsed loop lies in its turns.
-use Rattle.std.proofs.Common.{◌≡◌, ◌≢◌, ℕ, zero, suc, ◌+◌, ◌*◌, ◌/◌, ◌%◌, ◌<◌, ◌≤◌, Bool, true, false, ℤ, pos, ◌+ℤ◌, ◌*ℤ◌, ◌-ℤ◌, ◌≤ℤ◌, unsigned_abs, List, [], ◌∷◌, refl, ap, sym, ◌∙◌, subst, arith, div-add-mod', zero-lt-suc, Option, Some, None, Result, Ok, Err}
-use Rattle.std.specs.Prelude.{if◌then◌else◌, nat_eq, ◌&&◌, int_div}
+use Rattle.std.proofs.Common.{◌≡◌, ◌≢◌, ℕ, zero, suc, ◌+◌, ◌*◌, ◌/◌, ◌%◌, ◌<◌, ◌≤◌, Bool, true, false, ℤ, pos, ◌+ℤ◌, ◌*ℤ◌, ◌-ℤ◌, ◌≤ℤ◌, unsigned_abs, [], ◌∷◌, refl, ap, sym, ◌∙◌, subst, arith, div-add-mod', zero-lt-suc, Option, Some, None, Ok, Err}
+use Rattle.std.specs.Prelude.{if◌then◌else◌, nat_eq, int_div}
 use Rattle.std.specs.Ordering.{int_eq}
 use Rattle.std.proofs.lemmas.Int.{ints, unsigned_abs-mul}
 use Rattle.std.proofs.lemmas.Bool.{and_parts}
 use Rattle.std.proofs.Math.Nat.{mul-div_cancel, mul-zero, mod-lt}
 use Rattle.fl_ast.specs.declared.directive.Directive.{Directive}
-use Rattle.fl_ast.specs.Tree.{Expression, Statement, assignment, branch, loop, Statements, no_statements, statement}
-use Rattle.fl_types.specs.Nests.{Head, is_one_loop, is_nest, head_of, inner_head, further_head}
+use Rattle.fl_ast.specs.Tree.{Expression, assignment, branch, loop, Statements, no_statements, statement}
+use Rattle.fl_types.specs.Nests.{Head, is_one_loop, is_nest, inner_head, further_head}
 use Rattle.store_core.specs.Bounds.{clipped}
 use Rattle.meaning.specs.declared.value.Cause.TheVariants.{ZeroDivisor}
 use Rattle.meaning.specs.declared.value.IterationCount.{IterationCount}
@@ -15,16 +15,16 @@ use Rattle.meaning.specs.Values.{whole_number}
 use Rattle.meaning.specs.Logs.{pure, lift, ◌>>=◌}
 use Rattle.meaning.specs.Sites.{Cells, Site}
 use Rattle.meaning.specs.Expressions.{value_of}
-use Rattle.meaning.specs.Statements.{turns_by, step_value, turns_of, value_at, Heads, iterations, heads_of}
+use Rattle.meaning.specs.Statements.{turns_by, step_value, turns_of, Heads, iterations, heads_of}
 use Rattle.meaning.proofs.Parts.{bound}
 use Rattle.index_forms.specs.declared.form.Side.{Side}
 use Rattle.index_forms.specs.declared.form.Side.TheVariants.{One, Two}
-use Rattle.index_forms.specs.Form.{Atom, iter, iter2}
+use Rattle.index_forms.specs.Form.{Atom, iter2}
 use Rattle.index_forms.specs.Loops.{HeadedLoop, further, signed_number, step_number}
 use Rattle.index_forms.proofs.Ints.{abs-positive}
 use Rattle.index_law.specs.Variables.{counter_value}
-use Rattle.index_law.specs.Starts.{HasCounters, HasFurther, StandsAtStart, IsBegun}
-use Rattle.index_law.proofs.Starts.{HeadsAre, heads_are}
+use Rattle.index_law.specs.Starts.{HasCounters, StandsAtStart, IsBegun}
+use Rattle.index_law.proofs.Starts.{heads_are}
 use Rattle.apart_law.proofs.Ranges.{second_holds}
 use Rattle.loop_scenes.specs.Turns.{last_turn_by, last_turn_of}
 use Rattle.certificate_rules.specs.Disjoint.{DifferentIterations}

@@ -1,5 +1,5 @@
 -- The accesses of what is defined are defined: their subscripts are of the index kind.
-use Rattle.std.proofs.Common.{◌≡◌, ℕ, Bool, true, false, List, [], ◌∷◌, ◌++◌, refl, Option, Some, None}
+use Rattle.std.proofs.Common.{ℕ, Bool, true, false, List, [], ◌∷◌, ◌++◌, Option, Some, None}
 use Rattle.std.specs.Prelude.{if◌then◌else◌}
 use Rattle.fl_ast.specs.Tree.{Expression, literal, get, minus, binary, power, call, Expressions, no_expressions, expression, Designator, Condition, relation, negation, conjunction, disjunction}
 use Rattle.fl_types.specs.declared.access.AccessKind.{AccessKind}
@@ -8,7 +8,6 @@ use Rattle.fl_types.specs.declared.access.PathStep.{PathStep}
 use Rattle.fl_types.specs.Increment.{Signed, target_of}
 use Rattle.fl_types.specs.Accesses.{Scope, Occurrence, access, increment_kind, reads, reads_all, step_reads, term_reads, condition_reads, assignment_accesses}
 use Rattle.meaning.specs.Sites.{Cells, Site}
-
 use Rattle.meaning.specs.Defined.{IsDefined, AreDefined, IsDefinedCondition}
 use Rattle.meaning.specs.Reached.{AreDefinedTerms, IsDefinedAssignment, IsIndexStep}
 use Rattle.apart_law.proofs.Leaves.{AllDefined}

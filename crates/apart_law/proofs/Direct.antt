@@ -1,24 +1,23 @@
 -- What stands beside the path to an access: groups of the same statements, which a run that went through came to.
-use Rattle.std.proofs.Common.{◌≡◌, ℕ, zero, suc, ◌+◌, ◌<◌, ◌≤◌, Bool, true, false, ℤ, List, [], ◌∷◌, ◌++◌, length, refl, ap, sym, ◌∙◌, subst, arith, append_assoc, length-append, Option, Some, None, Result, Ok}
-use mathlib.Core.Logic.{inl, inr}
+use Rattle.std.proofs.Common.{◌≡◌, ℕ, ◌+◌, ◌<◌, ◌≤◌, Bool, true, false, ℤ, List, [], ◌∷◌, ◌++◌, length, refl, ap, sym, ◌∙◌, subst, arith, append_assoc, length-append, Option, Some, None, Result, Ok}
+use mathlib.Core.Logic.{inl}
 use Rattle.std.specs.Prelude.{◌||◌, bytes_eq}
 use Rattle.std.proofs.lemmas.Bool.{and_parts}
-use Rattle.fl_ast.specs.Tree.{Expression, Designator, Condition, Statement, assignment, branch, loop, Statements, no_statements, statement, Arms, no_arms, arm}
+use Rattle.fl_ast.specs.Tree.{Expression, Designator, Statement, assignment, branch, loop, Statements, no_statements, statement, Arms, no_arms, arm}
 use Rattle.fl_types.specs.declared.access.PathStep.{PathStep}
-use Rattle.fl_types.specs.declared.access.PathStep.TheVariants.{Arm, Test, Body}
+use Rattle.fl_types.specs.declared.access.PathStep.TheVariants.{Arm, Body}
 use Rattle.fl_types.specs.Increment.{increment_terms}
 use Rattle.fl_types.specs.Sharing.{has_name}
-use Rattle.fl_types.specs.Accesses.{Scope, Occurrence, reads, step_reads, condition_reads, accesses, accesses_all, arms_accesses, statement_count, statements_count, arms_count, test_path}
-use Rattle.meaning.specs.declared.value.Value.TheVariants.{Index}
+use Rattle.fl_types.specs.Accesses.{Scope, Occurrence, reads, step_reads, condition_reads, accesses, accesses_all, arms_accesses, statement_count, statements_count}
 use Rattle.meaning.specs.declared.value.TrapAt.{TrapAt}
 use Rattle.meaning.specs.Sites.{Cells, Site}
 use Rattle.meaning.specs.Expressions.{holds}
 use Rattle.meaning.specs.Statements.{run, run_all}
-use Rattle.meaning.specs.Sequential.{is_sequential, are_sequential, are_arms_sequential}
+use Rattle.meaning.specs.Sequential.{is_sequential, are_sequential}
 use Rattle.meaning.specs.Frame.{content_by_name}
 use Rattle.meaning.specs.Touches.{scope_at}
 use Rattle.meaning.specs.Reached.{HoldsAtEach, HoldsAtAll, IsSound}
-use Rattle.meaning.specs.Groups.{Group, group_at, right_accesses, assignment_group, groups_from, groups_of, groups_of_all, groups_of_arms}
+use Rattle.meaning.specs.Groups.{Group, group_at, right_accesses, assignment_group, groups_from, groups_of, groups_of_all}
 use Rattle.meaning.proofs.Parts.{bound}
 use Rattle.index_forms.specs.declared.form.Side.{Side}
 use Rattle.index_forms.specs.Form.{Atom, version}
@@ -35,8 +34,8 @@ use Rattle.index_law.proofs.GroupKeys.{split, by_side}
 use Rattle.index_law.proofs.Meets.{in_left, in_right}
 use Rattle.index_law.proofs.Steps.{or_first, or_second, known_after_holds}
 use Rattle.index_law.proofs.Fixed.{fixed_after}
-use Rattle.index_law.proofs.Shapes.{number_of, AtNumber, FromNumber, FromArm}
-use Rattle.apart_law.specs.Bindings.{Binding, Agrees, AreApart, Lies, AllHave, AllLie, no_loops, index_of, group_bindings}
+use Rattle.index_law.proofs.Shapes.{number_of, FromArm}
+use Rattle.apart_law.specs.Bindings.{Binding, Agrees, AreApart, Lies, AllLie, no_loops, index_of, group_bindings}
 use Rattle.apart_law.specs.Spots.{Spot, spot_at, bounds_accesses, spots_of, spots_in, spots_in_arms, Met}
 use Rattle.apart_law.proofs.Bound.{agrees_left, agrees_right, lie_both, lie_wider, absent_in, apart_both, separate_after}
 use Rattle.apart_law.proofs.Leaves.{AllDefined, group_agrees}
@@ -136,7 +135,7 @@ module _ (side : Side) (fixed : List ℕ → Bool) (before : Cells) where
         lies = ((refl, omega arith, omega arith), lie_wider side (n + 1) (n + 1) a (a + length os) n (n + 1) a (a + length os) no_loops no_loops (omega arith) (omega arith) (omega arith) (omega arith) (λ i h. h) own lying);
         apart = (
           absent_in (Lies side n (n + 1) a a no_loops) (Lies side (n + 1) (n + 1) a (a + length os) no_loops)
-          (separate_after side side n (n + 1) a a (n + 1) (n + 1) a (a + length os) no_loops no_loops (omega arith) (omega arith) (λ i h g. cc)) one.0 (refl, omega arith, omega arith) own lying,
+              (separate_after side side n (n + 1) a a (n + 1) (n + 1) a (a + length os) no_loops no_loops (omega arith) (omega arith) (λ i h g. cc)) one.0 (refl, omega arith, omega arith) own lying,
           group_apart site cells (set site) k a os,
         );
         met = λ v g h rd x i lead. by_side ((g : Group) × In g (groups_of n path (assignment line atomic p e) site cells) × Met v (set site) x g) i
@@ -144,7 +143,7 @@ module _ (side : Side) (fixed : List ℕ → Bool) (before : Cells) where
               assignment_group n path site cells line atomic p e,
               inl refl,
               same_spot v site _ x (assignment_group n path site cells line atomic p e) w
-              (own_met v k a path site cells os (right_accesses (scope_at site) line path e (increment_terms site.ring p e)) p.name (assignment_defined site cells (scope_at site) line path atomic p e (increment_terms site.ring p e) r.sound.1) r.holds g.1 h rd),
+                  (own_met v k a path site cells os (right_accesses (scope_at site) line path e (increment_terms site.ring p e)) p.name (assignment_defined site cells (scope_at site) line path atomic p e (increment_terms site.ring p e) r.sound.1) r.holds g.1 h rd),
             ))
             (λ w. absurd w);
       };

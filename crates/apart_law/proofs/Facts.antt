@@ -1,5 +1,5 @@
 -- The accesses of a loop's facts, and paths.
-use Rattle.std.proofs.Common.{◌≡◌, ℕ, zero, suc, Bool, true, false, ◌&&◌, ◌||◌, ◌⊎◌, if◌then◌else◌, IsTrue, List, [], ◌∷◌, ◌++◌, length, Option, Some, None, refl, ap, sym, ◌∙◌, subst}
+use Rattle.std.proofs.Common.{◌≡◌, ℕ, zero, suc, Bool, true, false, ◌&&◌, ◌||◌, ◌⊎◌, if◌then◌else◌, IsTrue, List, [], ◌∷◌, ◌++◌, length, Option, Some, refl, ap, sym, ◌∙◌, subst}
 use mathlib.Core.Logic.{inl, inr}
 use Rattle.std.specs.Prelude.{nat_eq, bytes_eq}
 use Rattle.std.proofs.lemmas.Bool.{and_parts}
@@ -15,7 +15,6 @@ use Rattle.index_forms.specs.Form.{Forms}
 use Rattle.index_knowledge.specs.Knowledge.{same_step, is_prefix, KnownFact, is_write, is_fact, fact_of, and_fact, with_facts_of, with_facts}
 use Rattle.index_law.specs.Paths.{LeadsTo}
 use Rattle.certificate_rules.specs.Surveys.{Survey, numbered, IsSurvey, serves_at}
-use Rattle.certificate_rules.proofs.FactForms.{Each}
 
 -- a fact's two accesses, of which one writes
 pub record OfTwo (as' : List Access) (k : KnownFact) : Type 0 where
@@ -126,9 +125,9 @@ true_is b h = h
 pub served : (a b f g : Access) (oa ob of og : Option Access) → oa ≡ Some a → ob ≡ Some b → of ≡ Some f → og ≡ Some g → IsTrue (serves_at oa ob of og) → LeadsTo a.path f.path × LeadsTo b.path g.path
 served a b f g oa ob of og ea eb ef eg h =
     let t : IsTrue (serves_at (Some a) (Some b) (Some f) (Some g)) =
-        subst (λ (o : Option Access). IsTrue (serves_at (Some a) (Some b) (Some f) o)) eg
-        (subst (λ (o : Option Access). IsTrue (serves_at (Some a) (Some b) o og)) ef
-        (subst (λ (o : Option Access). IsTrue (serves_at (Some a) o of og)) eb
-        (subst (λ (o : Option Access). IsTrue (serves_at o ob of og)) ea h))) in
+    subst (λ (o : Option Access). IsTrue (serves_at (Some a) (Some b) (Some f) o)) eg
+    (subst (λ (o : Option Access). IsTrue (serves_at (Some a) (Some b) o og)) ef
+    (subst (λ (o : Option Access). IsTrue (serves_at (Some a) o of og)) eb
+    (subst (λ (o : Option Access). IsTrue (serves_at o ob of og)) ea h))) in
     let p = and_parts (is_prefix a.path f.path) (is_prefix b.path g.path) (true_is (is_prefix a.path f.path && is_prefix b.path g.path) t) in
     (leads a.path f.path p.0, leads b.path g.path p.1)

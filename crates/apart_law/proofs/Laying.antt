@@ -1,5 +1,5 @@
 -- The accesses and the forms of statements are those of their spots, one behind the other.
-use Rattle.std.proofs.Common.{◌≡◌, ℕ, suc, ◌+◌, Bool, true, false, List, [], ◌∷◌, ◌++◌, map, length, refl, ap, sym, ◌∙◌, subst, arith, append_assoc, length-append, Option, Some, None}
+use Rattle.std.proofs.Common.{◌≡◌, ℕ, suc, ◌+◌, Bool, true, false, List, [], ◌∷◌, ◌++◌, length, refl, ap, sym, ◌∙◌, subst, arith, append_assoc, length-append, Option, Some, None}
 use Rattle.std.specs.Prelude.{flat_map, if◌then◌else◌}
 use Rattle.fl_ast.specs.Tree.{Expression, literal, get, minus, binary, power, call, Expressions, no_expressions, expression, Designator, Condition, relation, negation, conjunction, disjunction, Statement, assignment, branch, loop, Statements, no_statements, statement, Arms, no_arms, arm}
 use Rattle.fl_types.specs.declared.access.AccessKind.{AccessKind}
@@ -87,11 +87,12 @@ module _ (c : Setting) where
     laid_of_arms line n j m k path a (arm test body arms) other f =
         let tests = condition_reads c.scope line (test_path path n m) test in
         let inner = accesses_all c.scope j (path ++ Arm n m ∷ []) body in
-        let ys = spots_in_arms c line n (j + statements_count body) (m + 1) (without (written_in body) k) path (a + length tests + length inner) arms other in
-        (refl,
-        laid_both (a + length tests) (spots_in c j k (path ++ Arm n m ∷ []) (a + length tests) body) ys (laid_of_all j k (path ++ Arm n m ∷ []) (a + length tests) body)
-        (subst (λ (z : List Occurrence). AreLaid (a + length tests + length z) ys) (sym (accesses_of_all c j k (path ++ Arm n m ∷ []) (a + length tests) body))
-        (laid_of_arms line n (j + statements_count body) (m + 1) (without (written_in body) k) path (a + length tests + length inner) arms other f)))
+        let ys = spots_in_arms c line n (j + statements_count body) (m + 1) (without (written_in body) k) path (a + length tests + length inner) arms other in (
+          refl,
+          laid_both (a + length tests) (spots_in c j k (path ++ Arm n m ∷ []) (a + length tests) body) ys (laid_of_all j k (path ++ Arm n m ∷ []) (a + length tests) body)
+              (subst (λ (z : List Occurrence). AreLaid (a + length tests + length z) ys) (sym (accesses_of_all c j k (path ++ Arm n m ∷ []) (a + length tests) body))
+              (laid_of_arms line n (j + statements_count body) (m + 1) (without (written_in body) k) path (a + length tests + length inner) arms other f)),
+        )
 
 -- ---- the places of accesses don't depend on lines, paths and reductions
 

@@ -1,25 +1,23 @@
 -- The atoms of an access's nodes: which there are, and that a valuation with their bindings has the nodes' values.
-use Rattle.std.proofs.Common.{◌≡◌, ℕ, suc, ◌+◌, ◌<◌, ◌≤◌, Bool, true, false, ℤ, pos, List, [], ◌∷◌, ◌++◌, length, refl, ap, sym, ◌∙◌, subst, arith, Option, Some, None, Result, Ok, Err}
+use Rattle.std.proofs.Common.{ℕ, suc, Bool, true, false, ℤ, pos, List, [], ◌∷◌, ◌++◌, ap, ◌∙◌, Option, Some, None}
 use Rattle.std.specs.Prelude.{if◌then◌else◌}
-use Rattle.fl_ast.specs.Tree.{Expression, literal, get, minus, binary, power, call, Expressions, no_expressions, expression, Designator}
+use Rattle.fl_ast.specs.Tree.{Expression, literal, get, minus, binary, power, call, Expressions, no_expressions, expression}
 use Rattle.fl_types.specs.Accesses.{Occurrence}
 use Rattle.meaning.specs.declared.value.Value.{Value}
 use Rattle.meaning.specs.declared.value.Value.TheVariants.{Index, Ring}
-use Rattle.meaning.specs.declared.value.Cause.{Cause}
 use Rattle.meaning.specs.Sites.{Cells, Site}
-use Rattle.meaning.specs.Expressions.{value_of, values_of}
-use Rattle.meaning.specs.Defined.{AreIndexValues, AreSubscripts, IsDefined, AreDefined}
-use Rattle.index_forms.specs.declared.form.Side.{Side}
+use Rattle.meaning.specs.Expressions.{value_of}
+use Rattle.meaning.specs.Defined.{AreIndexValues, IsDefined, AreDefined}
 use Rattle.index_forms.specs.Form.{Atom, start, iter, inner, inv, version, read, opaque, start2, iter2, Form, form, no_terms}
-use Rattle.index_forms.specs.Formed.{Viewed, FormedAll, atom_form, opaque_node, node, if_narrow, keep, linear, negative, element_node, formed, formed_all}
+use Rattle.index_forms.specs.Formed.{Viewed, FormedAll, atom_form, opaque_node, node, if_narrow, linear, negative, element_node, formed, formed_all}
 use Rattle.index_forms.specs.Formed.{Known}
 use Rattle.index_forms.specs.Walk.{Setting, viewed}
-use Rattle.index_law.specs.Worth.{HoldsKnown, AgreesOn, AreIndices}
+use Rattle.index_law.specs.Worth.{HoldsKnown, AreIndices}
 use Rattle.index_law.specs.Valuations.{HasReads, HoldsFixed, HasIndexSubscripts, NodeAgrees, NodesAgree}
 use Rattle.index_law.proofs.Elements.{element_values}
-use Rattle.apart_law.specs.Bindings.{Binding, Agrees, IsAbsent, AreApart, Lies, AllLie, index_of, node_value, leaf_binding, leaf_bindings, group_bindings}
+use Rattle.apart_law.specs.Bindings.{Agrees, node_value, leaf_binding, leaf_bindings, group_bindings}
 use Rattle.apart_law.specs.Spots.{AllAgree}
-use Rattle.apart_law.proofs.Bound.{agrees_left, agrees_right, lie_both, lie_wider, apart_both, separate_after, Separate}
+use Rattle.apart_law.proofs.Bound.{agrees_left, agrees_right}
 
 -- ---- subscripts are of the index kind
 

@@ -1,21 +1,20 @@
 -- An access by its number, and the spot that it is one of.
-use Rattle.std.proofs.Common.{◌≡◌, ℕ, zero, suc, ◌+◌, ◌-◌, ◌≤◌, ◌⊎◌, Bool, true, false, ℤ, List, [], ◌∷◌, ◌++◌, map, length, refl, ap, sym, ◌∙◌, subst, arith, append_assoc, length-append, Option, Some, None, Ok}
+use Rattle.std.proofs.Common.{◌≡◌, ℕ, zero, suc, ◌+◌, ◌⊎◌, ℤ, List, [], ◌∷◌, ◌++◌, map, length, refl, ap, sym, ◌∙◌, subst, arith, length-append, Some, Ok}
 use mathlib.Core.Logic.{inl, inr}
 use Rattle.std.specs.Prelude.{flat_map}
-use Rattle.fl_ast.specs.Tree.{Designator}
 use Rattle.fl_types.specs.Accesses.{Occurrence}
 use Rattle.meaning.specs.declared.value.Value.{Value}
 use Rattle.meaning.specs.Sites.{Cells, Site}
 use Rattle.meaning.specs.Expressions.{values_of}
-use Rattle.index_forms.specs.Form.{Atom, Forms}
-use Rattle.index_forms.specs.Formed.{Known, Viewed, formed_all, subscript_forms}
+use Rattle.index_forms.specs.Form.{Atom}
+use Rattle.index_forms.specs.Formed.{Known, formed_all, subscript_forms}
 use Rattle.index_forms.specs.Walk.{Setting, viewed}
 use Rattle.index_law.specs.Worth.{AgreesOn, AreIndices}
 use Rattle.index_law.specs.Meetings.{In}
 use Rattle.index_law.proofs.GroupKeys.{by_side}
 use Rattle.index_law.proofs.Meets.{in_left}
 use Rattle.apart_law.specs.Spots.{Spot, AllAgree}
-use Rattle.apart_law.specs.Laid.{places, accesses_at, forms_at, spot_forms, AreLaid}
+use Rattle.apart_law.specs.Laid.{places, accesses_at, forms_at, AreLaid}
 use Rattle.apart_law.proofs.Laying.{flat_both}
 use Rattle.certificate_rules.specs.Surveys.{numbered}
 

@@ -12,7 +12,7 @@ use Rattle.meaning.proofs.Contents.{place_named}
 use Rattle.index_forms.specs.Loops.{HeadedLoop}
 use Rattle.index_law.specs.Meetings.{Evaluated, place_in}
 use Rattle.index_law.proofs.GroupKeys.{keys_kept}
-use Rattle.apart_law.specs.Apart.{IsInstance, LoopsAreApart, NumbersAreOwn}
+use Rattle.apart_law.specs.Apart.{LoopsAreApart, NumbersAreOwn}
 use Rattle.apart_law.proofs.Running.{IsRun}
 use Rattle.apart_law.proofs.Numbering.{readable_numbered}
 use Rattle.apart_law.proofs.Differing.{apart}

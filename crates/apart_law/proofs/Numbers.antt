@@ -1,5 +1,5 @@
 -- The bindings of accesses are apart: opaque nodes are numbered in each access, and accesses have numbers.
-use Rattle.std.proofs.Common.{◌≡◌, ℕ, suc, ◌+◌, ◌<◌, ◌≤◌, Bool, true, false, ℤ, pos, List, [], ◌∷◌, ◌++◌, length, refl, ap, sym, ◌∙◌, subst, arith, append_assoc, Option, Some, None}
+use Rattle.std.proofs.Common.{◌≡◌, ℕ, suc, ◌+◌, ◌<◌, ◌≤◌, Bool, true, false, pos, List, [], ◌∷◌, ◌++◌, length, refl, ap, sym, ◌∙◌, subst, arith, append_assoc, Option, Some, None}
 use Rattle.std.specs.Prelude.{if◌then◌else◌}
 use Rattle.fl_ast.specs.Tree.{Expression, literal, get, minus, binary, power, call, Expressions, no_expressions, expression}
 use Rattle.fl_types.specs.Accesses.{Occurrence}
@@ -9,7 +9,7 @@ use Rattle.index_forms.specs.declared.form.Side.{Side}
 use Rattle.index_forms.specs.Form.{Atom, start, iter, inner, inv, version, read, opaque, start2, iter2, Form, form, no_terms}
 use Rattle.index_forms.specs.Formed.{Known, Viewed, Formed, FormedAll, atom_form, opaque_node, node, if_narrow, negative, linear, element_node, formed, formed_all}
 use Rattle.index_forms.specs.Walk.{Setting, viewed}
-use Rattle.apart_law.specs.Bindings.{Binding, IsAbsent, AreApart, Lies, AllHave, AllLie, no_loops, node_value, leaf_binding, leaf_bindings, group_bindings}
+use Rattle.apart_law.specs.Bindings.{Binding, AreApart, Lies, AllHave, AllLie, no_loops, node_value, leaf_binding, leaf_bindings, group_bindings}
 use Rattle.apart_law.proofs.Bound.{have_both, have_weaker, lie_wider, apart_both, Separate, separate_after}
 
 -- an opaque atom of one access, whose number is above n and at most m

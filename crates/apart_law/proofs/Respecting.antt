@@ -1,19 +1,17 @@
 -- A valuation for two iterations that respects the pair of two accesses that they evaluate, and has the values of both.
-use Rattle.std.proofs.Common.{◌≡◌, ◌≢◌, ℕ, zero, suc, ◌+◌, ◌<◌, ◌≤◌, Bool, true, false, ◌&&◌, ◌||◌, ◌⊎◌, if◌then◌else◌, IsTrue, ℤ, pos, ◌+ℤ◌, ◌≤ℤ◌, List, [], ◌∷◌, ◌++◌, map, length, refl, ap, sym, ◌∙◌, subst, arith, Option, Some, None, Result, Ok, Err}
-use mathlib.Core.Logic.{inl, inr}
+use Rattle.std.proofs.Common.{◌≡◌, ◌≢◌, ℕ, zero, suc, ◌+◌, Bool, true, false, ◌||◌, ◌⊎◌, if◌then◌else◌, IsTrue, ℤ, pos, ◌≤ℤ◌, List, [], ◌∷◌, ◌++◌, map, length, refl, ap, sym, ◌∙◌, subst, arith, Option, Some, None, Result, Ok, Err}
+use mathlib.Core.Logic.{inl}
 use Rattle.std.specs.Prelude.{flat_map, nat_eq, bytes_eq}
 use Rattle.std.proofs.lemmas.Int.{ints}
 use Rattle.std.proofs.lemmas.Bool.{and_parts}
 use Rattle.std.proofs.lemmas.Bool.Decides.{nat_tests}
 use Rattle.fl_ast.specs.declared.decl.Decl.{Decl}
-use Rattle.fl_ast.specs.Tree.{Statements}
 use Rattle.fl_types.specs.declared.access.Access.{Access}
 use Rattle.fl_types.specs.declared.access.PathStep.{PathStep}
 use Rattle.fl_types.specs.declared.access.AccessKind.TheVariants.{Write}
 use Rattle.fl_types.specs.Accesses.{Scope, Occurrence, scope_of, accesses_all, loop_accesses, statements_count}
-use Rattle.fl_types.specs.Nests.{iteration_body}
-use Rattle.fl_types.specs.Sharing.{makes_accesses, sharing_in, is_plus, is_ring_name}
-use Rattle.loop_accesses.specs.Numbers.{Numbered, numbered as numbered_from}
+use Rattle.fl_types.specs.Sharing.{makes_accesses, sharing_in, is_plus}
+use Rattle.loop_accesses.specs.Numbers.{numbered as numbered_from}
 use Rattle.store_core.specs.Keys.{same_key, first_at}
 use Rattle.meaning.specs.declared.value.Value.{Value}
 use Rattle.meaning.specs.declared.value.Cause.{Cause}
@@ -23,20 +21,19 @@ use Rattle.meaning.specs.Sites.{Key, Cells, Site, in_iteration}
 use Rattle.meaning.specs.Statements.{Heads, iterations, turns, run_all}
 use Rattle.meaning.specs.Touches.{scope_at, place_at}
 use Rattle.meaning.specs.Reached.{iteration_cells}
-use Rattle.meaning.specs.Groups.{Group, iteration_of, groups_of_all, groups_of_iteration}
+use Rattle.meaning.specs.Groups.{Group, iteration_of, groups_of_iteration}
 use Rattle.meaning.proofs.Parts.{turn_run, result_once}
 use Rattle.index_forms.specs.declared.form.Side.{Side}
 use Rattle.index_forms.specs.declared.form.Side.TheVariants.{One, Two}
-use Rattle.index_forms.specs.Form.{Atom, start, iter, inner, inv, version, read, opaque, start2, iter2, Form, Forms}
+use Rattle.index_forms.specs.Form.{Atom, start, iter, inner, inv, version, read, opaque, start2, iter2, Forms}
 use Rattle.index_forms.specs.Sums.{values}
-use Rattle.index_forms.specs.Formed.{Known, Viewed, subscript_forms}
-use Rattle.index_forms.specs.Loops.{HeadedLoop, inside, further, known_at_start, forms_scope, is_fixed}
+use Rattle.index_forms.specs.Formed.{Viewed, subscript_forms}
+use Rattle.index_forms.specs.Loops.{HeadedLoop, inside, further, known_at_start, is_fixed}
 use Rattle.index_forms.specs.Walk.{Setting, viewed, setting_of, with_statements, loop_forms}
 use Rattle.index_ranges.specs.Ranges.{KnownRange, ranges_in}
-use Rattle.index_law.specs.Meetings.{In, FreeRun, Evaluated, place_in}
+use Rattle.index_law.specs.Meetings.{In, Evaluated, place_in}
 use Rattle.index_law.specs.Paths.{LeadsTo}
 use Rattle.index_law.specs.Respect.{Fits}
-use Rattle.index_law.specs.Starts.{IsBegun, StandsAtStart}
 use Rattle.index_law.specs.Valuations.{is_of_instance, StandsForTwo}
 use Rattle.index_law.specs.Worth.{HoldsKnown}
 use Rattle.index_law.proofs.Nodes.{sound_all}
@@ -48,22 +45,22 @@ use Rattle.index_law.proofs.Iterations.{iteration_out}
 use Rattle.index_law.proofs.Valuations.{valuations_stand}
 use Rattle.index_law.proofs.Shapes.{FromNumber}
 use Rattle.index_law.proofs.Meets.{in_right}
-use Rattle.apart_law.specs.Bindings.{Binding, Agrees, AreApart, same_side, is_atom, given, Lies}
+use Rattle.apart_law.specs.Bindings.{Binding, Agrees, same_side, is_atom, given, Lies}
 use Rattle.apart_law.specs.Numbers.{numbers_in, IsInRange, AreInRange, LiesIn}
 use Rattle.apart_law.specs.Spots.{Spot, spots_in, Met}
 use Rattle.apart_law.specs.Laid.{accesses_at, spot_forms, AreLaid, plainly}
 use Rattle.apart_law.proofs.Bound.{agrees_left, agrees_right, apart_both, separate_sides, themselves, themselves_both, list_agrees, same_values}
-use Rattle.apart_law.proofs.Direct.{set, RanAll, Told}
+use Rattle.apart_law.proofs.Direct.{set}
 use Rattle.apart_law.proofs.Along.{Found, key_all, found_all}
 use Rattle.apart_law.proofs.Laying.{accesses_of_all, laid_of_all, forms_of_all, spot_forms_long}
 use Rattle.apart_law.proofs.Ranges.{range_holds}
-use Rattle.certificate_rules.specs.Surveys.{Survey, numbered, range_of, IsSurvey, fact_serves}
+use Rattle.certificate_rules.specs.Surveys.{numbered, range_of, fact_serves}
 use Rattle.certificate_rules.specs.Disjoint.{DifferentIterations, Respects, Disjoint}
 use Rattle.index_knowledge.specs.Knowledge.{KnownFact, KnownPair, is_write, is_fact}
 use Rattle.loop_scenes.specs.Turns.{last_turn_of}
 use Rattle.loop_pairs.specs.Known.{bare, bare_accesses, survey_by, nest_of}
 use Rattle.apart_law.proofs.Running.{IsRun}
-use Rattle.apart_law.proofs.Located.{Located, located, At, number_of, beside, form_at, agrees_at, in_number}
+use Rattle.apart_law.proofs.Located.{Located, located, beside, form_at, agrees_at, in_number}
 use Rattle.apart_law.proofs.Facts.{facts_of_two, one_writes, one_name, served}
 use Rattle.apart_law.proofs.Counters.{different, second_lies}
 use Rattle.apart_law.proofs.SpotPaths.{spot_paths}

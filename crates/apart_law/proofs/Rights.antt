@@ -1,14 +1,13 @@
 -- Which accesses are in right sides of assignments to active names, by their spots.
-use Rattle.std.proofs.Common.{◌≡◌, ℕ, zero, suc, ◌+◌, ◌-◌, Bool, true, false, List, [], ◌∷◌, ◌++◌, map, length, refl, ap, sym, ◌∙◌, subst, arith, append_assoc, length-append, Option, Some, None}
+use Rattle.std.proofs.Common.{◌≡◌, ℕ, zero, suc, ◌+◌, ◌-◌, Bool, false, List, [], ◌∷◌, ◌++◌, length, refl, ap, sym, ◌∙◌, subst, arith, append_assoc, length-append, Option, Some, None}
 use mathlib.Core.Logic.{inl, inr}
 use Rattle.std.specs.Prelude.{flat_map}
-use Rattle.fl_ast.specs.Tree.{Expression, Designator, Condition, Statement, assignment, branch, loop, Statements, no_statements, statement, Arms, no_arms, arm}
+use Rattle.fl_ast.specs.Tree.{Expression, Designator, Statement, assignment, branch, loop, Statements, no_statements, statement, Arms, no_arms, arm}
 use Rattle.fl_types.specs.declared.access.PathStep.{PathStep}
 use Rattle.fl_types.specs.declared.access.PathStep.TheVariants.{Arm, Body}
-use Rattle.fl_types.specs.declared.access.AccessKind.{AccessKind}
 use Rattle.fl_types.specs.declared.access.AccessKind.TheVariants.{Write}
 use Rattle.fl_types.specs.Increment.{Signed, increment_terms}
-use Rattle.fl_types.specs.Accesses.{Scope, Occurrence, access, increment_kind, reads, reads_all, step_reads, term_reads, condition_reads, assignment_accesses, accesses, accesses_all, statement_count, statements_count, test_path}
+use Rattle.fl_types.specs.Accesses.{Scope, Occurrence, access, increment_kind, reads, reads_all, term_reads, condition_reads, assignment_accesses, accesses, accesses_all, statement_count, statements_count, test_path}
 use Rattle.meaning.specs.Groups.{right_accesses}
 use Rattle.meaning.proofs.GroupReadings.{append_nil}
 use Rattle.index_forms.specs.Formed.{Known}
@@ -16,12 +15,10 @@ use Rattle.index_forms.specs.Increments.{value_reads}
 use Rattle.index_forms.specs.Loops.{written_in}
 use Rattle.index_forms.specs.Walk.{Setting, without, known_after, known_inside, bounds_reads}
 use Rattle.index_law.specs.Meetings.{In}
-use Rattle.index_law.proofs.GroupKeys.{split, by_side}
 use Rattle.apart_law.specs.Spots.{Spot, Rest, spot_at, bounds_accesses, spots_of, spots_in, spots_in_arms}
 use Rattle.apart_law.specs.Laid.{places, plain_scope}
 use Rattle.apart_law.proofs.Laying.{flat_both, places_long, reads_places, terms_places, condition_places, bounds_places, target_places}
 use Rattle.loop_scenes.specs.Rights.{marked, rights_by, rights_in, rights_in_arms}
-use Rattle.certificate_rules.specs.Surveys.{numbered}
 
 abbrev pub falses : ℕ → List Bool
 falses zero = []
@@ -92,10 +89,11 @@ module _ (c : Setting) where
     begin_of_arms line n j m k path a no_arms other f = f j k (path ++ Arm n m ∷ []) a
     begin_of_arms line n j m k path a (arm test body arms) other f =
         let tests = condition_reads c.scope line (test_path path n m) test in
-        let inner = accesses_all c.scope j (path ++ Arm n m ∷ []) body in
-        ((_, refl),
-        begin_both (spots_in c j k (path ++ Arm n m ∷ []) (a + length tests) body) (spots_in_arms c line n (j + statements_count body) (m + 1) (without (written_in body) k) path (a + length tests + length inner) arms other)
-        (begin_of_all j k (path ++ Arm n m ∷ []) (a + length tests) body) (begin_of_arms line n (j + statements_count body) (m + 1) (without (written_in body) k) path (a + length tests + length inner) arms other f))
+        let inner = accesses_all c.scope j (path ++ Arm n m ∷ []) body in (
+          (_, refl),
+          begin_both (spots_in c j k (path ++ Arm n m ∷ []) (a + length tests) body) (spots_in_arms c line n (j + statements_count body) (m + 1) (without (written_in body) k) path (a + length tests + length inner) arms other)
+              (begin_of_all j k (path ++ Arm n m ∷ []) (a + length tests) body) (begin_of_arms line n (j + statements_count body) (m + 1) (without (written_in body) k) path (a + length tests + length inner) arms other f),
+        )
 
 pub begins_in : (xs : List Spot) → AllBegin xs → (x : Spot) → In x xs → Begins x
 begins_in [] h x i = absurd i
@@ -174,4 +172,3 @@ module _ (c : Setting) (on : List ℕ → Bool) where
         (ap (λ (bs : List Bool). bs ++ (rights_in_arms plain on arms ++ others)) (rights_of_all j k (path ++ Arm n m ∷ []) (a + length tests) body)
         ∙ (ap (λ (bs : List Bool). flat_map (spot_rights on) xs ++ bs) (rights_of_arms line n (j + statements_count body) (m + 1) (without (written_in body) k) path (a + length tests + length inner) arms other others f)
         ∙ sym (flat_both (spot_rights on) xs ys))))
-

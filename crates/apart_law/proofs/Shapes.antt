@@ -1,7 +1,7 @@
 -- The paths of spots, by the numbers of their steps.
-use Rattle.std.proofs.Common.{◌≡◌, ℕ, zero, suc, ◌+◌, ◌<◌, ◌≤◌, ◌⊎◌, List, [], ◌∷◌, ◌++◌, length, refl, ap, sym, ◌∙◌, subst, arith, append_assoc}
+use Rattle.std.proofs.Common.{◌≡◌, ℕ, zero, suc, ◌+◌, ◌<◌, ◌≤◌, ◌⊎◌, List, [], ◌∷◌, ◌++◌, length, refl, ap, sym, ◌∙◌, arith, append_assoc}
 use mathlib.Core.Logic.{inl, inr}
-use Rattle.fl_ast.specs.Tree.{Condition, Statement, assignment, branch, loop, Statements, no_statements, statement, Arms, no_arms, arm}
+use Rattle.fl_ast.specs.Tree.{Statement, assignment, branch, loop, Statements, no_statements, statement, Arms, no_arms, arm}
 use Rattle.fl_types.specs.declared.access.PathStep.{PathStep}
 use Rattle.fl_types.specs.declared.access.PathStep.TheVariants.{Arm, Test, Body}
 use Rattle.fl_types.specs.Accesses.{condition_reads, accesses, accesses_all, statement_count, statements_count, test_path}
@@ -10,9 +10,8 @@ use Rattle.index_forms.specs.Formed.{Known}
 use Rattle.index_forms.specs.Loops.{written_in}
 use Rattle.index_forms.specs.Walk.{Setting, without, known_after, known_inside}
 use Rattle.index_law.specs.Meetings.{In}
-use Rattle.index_law.specs.Paths.{LeadsTo}
 use Rattle.index_law.proofs.GroupKeys.{split, by_side}
-use Rattle.index_law.proofs.Shapes.{number_of, arm_of, AtNumber, FromNumber, FromArm}
+use Rattle.index_law.proofs.Shapes.{number_of, AtNumber, FromNumber, FromArm}
 use Rattle.apart_law.specs.Spots.{Spot, Rest, bounds_accesses, spots_of, spots_in, spots_in_arms}
 
 abbrev pub Beneath : (List PathStep → Type 0) → List PathStep → Spot → Type 0

@@ -1,5 +1,5 @@
 -- Spots one behind the other, as the accesses and their forms stand.
-use Rattle.std.specs.Prelude.{◌≡◌, ℕ, suc, ◌+◌, Bool, false, List, [], ◌∷◌, ◌++◌, map, flat_map, length}
+use Rattle.std.specs.Prelude.{◌≡◌, ℕ, suc, ◌+◌, false, List, [], ◌∷◌, map, length}
 use Rattle.fl_ast.specs.Tree.{Designator}
 use Rattle.fl_types.specs.Accesses.{Scope, Occurrence}
 use Rattle.index_forms.specs.Form.{Forms}

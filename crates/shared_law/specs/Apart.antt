@@ -1,35 +1,24 @@
 -- Differentiated reads of names with the choice Shared, in different iterations of a parallel loop.
-use Rattle.std.specs.Prelude.{◌≡◌, ◌≢◌, ℕ, ◌<◌, ◌^◌, All, Bool, true, List, [], ◌∷◌, Some, Ok}
-use Rattle.std.specs.List.{AllByRecursion}
+use Rattle.std.specs.Prelude.{◌≡◌, ℕ, ◌<◌, ◌^◌, All, Bool, List, Ok}
 use Rattle.fl_ast.specs.declared.decl.Decl.{Decl}
 use Rattle.fl_ast.specs.declared.stmt.Program.{Program}
 use Rattle.fl_ast.specs.Tree.{stmt_trees, program_tree}
-use Rattle.fl_types.specs.declared.access.AccessKind.TheVariants.{Read}
-use Rattle.fl_types.specs.Sharing.{is_ring_name}
 use Rattle.store_core.specs.declared.values.Entry.{Entry}
 use Rattle.store_core.specs.Places.{shapes_of}
 use Rattle.meaning.specs.Logs.{events}
-use Rattle.meaning.specs.Sites.{Cells, Site, in_iteration}
-use Rattle.meaning.specs.Statements.{Heads, iterations, turns}
+use Rattle.meaning.specs.Sites.{Cells, Site}
+use Rattle.meaning.specs.Statements.{Heads, iterations}
 use Rattle.meaning.specs.Stops.{Limits, by_conflict, at_end, first_stop}
 use Rattle.meaning.specs.Adjoints.{cells_along, unit}
 use Rattle.meaning.specs.Programs.{entry_cells, run_of}
-use Rattle.meaning.specs.Reached.{iteration_cells, HoldsAtAll, IsSound}
-use Rattle.meaning.specs.Groups.{iteration_of}
-use Rattle.reachability.specs.Reached.{IsAmong}
 use Rattle.transposition.specs.Worlds.{name_at}
 use Rattle.transposition.specs.Law.{HasDifferentiatedRead, SharedApart}
 use Rattle.transposition.specs.Calms.{iteration_log, PairwiseAll, AreFlat}
-use Rattle.index_forms.specs.Loops.{HeadedLoop, headed_loops_of_all, inside}
-use Rattle.index_law.specs.Meetings.{In, FreeRun, Evaluated, place_in}
-use Rattle.index_law.specs.Starts.{IsBegun}
+use Rattle.index_forms.specs.Loops.{HeadedLoop}
 use Rattle.apart_law.specs.Apart.{IsInstance, IsDifferentiated}
 use Rattle.certificate.specs.declared.derivation.Given.{Given}
-use Rattle.certificate_rules.specs.Surveys.{IsSurvey}
-use Rattle.sharing_choice.specs.Choosing.{pairs_of}
 use Rattle.loop_choices.specs.Choosing.{choice_in}
-use Rattle.loop_pairs.specs.Known.{survey_by, known_loop}
-use Rattle.program_certificates.specs.Choices.{choices_with, NeverMeet}
+use Rattle.program_certificates.specs.Choices.{choices_with}
 use Rattle.adjoint_sets.specs.Names.{is_active, is_needed}
 use Rattle.sound_programs.specs.Uses.{AreFitting}
 use Rattle.sound_programs.specs.Accepted.{IsAccepted, world_of_program}
