@@ -4,3 +4,4 @@ pub mod Loops
 pub mod Evaluated
 pub mod Choices
 pub mod Programs
+pub mod Known

@@ -3,4 +3,7 @@
 
 mod laws;
 
-pub use laws::{known_choices_fit, reads_are_apart, reads_are_evaluated};
+pub use laws::{
+    known_choices_fit, known_is_transposed, known_runs_are_calm, reads_are_apart,
+    reads_are_evaluated,
+};
