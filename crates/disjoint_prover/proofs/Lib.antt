@@ -3,3 +3,4 @@ pub mod GrownLines
 pub mod FactCases
 pub mod ShownForms
 pub mod LeastReads
+pub mod Tested

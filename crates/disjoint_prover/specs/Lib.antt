@@ -3,3 +3,4 @@ pub mod FactRules
 pub mod FormTests
 pub mod Grown
 pub mod ShownLines
+pub mod Tested

@@ -72,10 +72,14 @@ fn first_element(terms: &[(Atom, i64)]) -> Option<Apart<'_>>
     }
 }
 
-/// The two elements whose difference the form is.
+/// The two elements whose difference the form is. Its constant is then 0, which is tested before that difference is made.
+#[tactic(auto, using(crate::proofs::Tested::not_apart))]
 pub fn elements_of(alloc: Global, form: &Form) -> Result<Option<Apart<'_>>, Memory>
     ensures { IfOk result (λ o. option_map apart_told o ≡ elements_of_lem (form_tree form.now)) }
 {
+    if form.constant != 0 {
+        return Ok(None);
+    }
     match first_element(form.terms.as_slice()) {
         Some(apart) => {
             let difference = reads_apart(alloc, apart.name, apart.ones, apart.twos)?;

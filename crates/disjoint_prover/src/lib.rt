@@ -8,4 +8,4 @@ mod lines;
 mod plain;
 mod shown;
 
-pub use plain::prove;
+pub use plain::{is_plain, prove};

@@ -1,19 +1,22 @@
 //! The first case that makes a pair plain.
 
-ghost use Rattle.std.specs.Prelude.{◌≡◌, option_map, IfOk, IfSome};
+ghost use Rattle.std.specs.Prelude.{◌≡◌, [], ◌∷◌, map, is_some, option_map, IfOk, IfSome};
+ghost use Rattle.index_forms.specs.Seen.{form_tree};
 ghost use Rattle.index_knowledge.specs.Told.{fact_told, facts_told, pair_told};
 ghost use Rattle.certificate_rules.specs.Accepted.{Accepted};
 ghost use Rattle.certificate_rules.specs.Plain.{by_fact as by_fact_lem, by_facts as by_facts_lem, by_elements as by_elements_lem, stated};
 ghost use Rattle.acceptance.specs.Told.{survey_of, derivation_told};
 ghost use Rattle.disjoint_prover.specs.FactRules.{derive, by_differences as by_differences_lem};
+ghost use Rattle.disjoint_prover.specs.Tested.{may_close as may_close_lem, is_closed};
 
 use crate::alone::{by_distinct, by_range, by_residue};
 use crate::least::number_at;
-use crate::lines::{numbers, push_lines};
+use crate::lines::{line_for, numbers, push_lines};
 use crate::shown::push_all_shown;
 use acceptance::{LoopKnowledge, serves_pair};
 use certificate::{Close, Derivation};
 use fl_base::{Items, Memory};
+use index_forms::Form;
 use index_knowledge::{Fact, Pair};
 use std::alloc::Global;
 
@@ -26,6 +29,26 @@ pub enum FactRule {
     Elements,
 }
 
+fn has_line(alloc: Global, pair: &Pair, form: &Form) -> Result<bool, Memory>
+    ensures { IfOk result (λ b. b ≡ may_close_lem (pair_told pair.now) (form_tree form.now ∷ [])) }
+{
+    match line_for(alloc, pair, form)? {
+        Some(_) => Ok(true),
+        None => Ok(false),
+    }
+}
+
+/// Whether the first of a fact's differences, if there is one, is 0 or a difference of the pair: what most facts fail at once.
+fn may_close(alloc: Global, pair: &Pair, forms: &[Form]) -> Result<bool, Memory>
+    ensures { IfOk result (λ b. b ≡ may_close_lem (pair_told pair.now) (map form_tree forms.now)) }
+{
+    match forms {
+        [] => Ok(true),
+        [first, ..] => Ok(has_line(alloc, pair, first)?),
+    }
+}
+
+#[tactic(auto, using(crate::proofs::Tested::not_closing))]
 fn by_fact(
     alloc: Global,
     knowledge: &LoopKnowledge,
@@ -35,6 +58,9 @@ fn by_fact(
 ) -> Result<Option<Derivation>, Memory>
     ensures { IfOk result (λ o. option_map derivation_told o ≡ by_fact_lem (survey_of knowledge.now) (pair_told pair.now) number (fact_told fact.now)) }
 {
+    if !may_close(alloc, pair, fact.differences.as_slice())? {
+        return Ok(None);
+    }
     if !serves_pair(knowledge.accesses.as_slice(), fact, pair) {
         return Ok(None);
     }
@@ -160,4 +186,47 @@ pub fn prove(
     ensures accepted { IfOk result (λ o. IfSome o (λ d. Accepted (survey_of knowledge.now) (pair_told pair.now) (derivation_told d))) }
 {
     Ok(by_cases(alloc, knowledge, pair)?)
+}
+
+fn closes_alone(alloc: Global, knowledge: &LoopKnowledge, pair: &Pair) -> Result<bool, Memory>
+    ensures { IfOk result (λ b. b ≡ is_some (by_differences_lem (survey_of knowledge.now) (pair_told pair.now))) }
+{
+    match by_differences(alloc, knowledge, pair)? {
+        Some(_) => Ok(true),
+        None => Ok(false),
+    }
+}
+
+fn closes_by(
+    alloc: Global,
+    rule: FactRule,
+    knowledge: &LoopKnowledge,
+    pair: &Pair,
+) -> Result<bool, Memory>
+    ensures { IfOk result (λ b. b ≡ is_some (by_facts_lem (derive rule (survey_of knowledge.now) (pair_told pair.now)) 1 (survey_of knowledge.now).facts)) }
+{
+    match by_facts(alloc, rule, knowledge, pair, knowledge.facts.as_slice())? {
+        Some(_) => Ok(true),
+        None => Ok(false),
+    }
+}
+
+fn closes(alloc: Global, knowledge: &LoopKnowledge, pair: &Pair) -> Result<bool, Memory>
+    ensures { IfOk result (λ b. b ≡ is_closed (survey_of knowledge.now) (pair_told pair.now)) }
+{
+    if closes_alone(alloc, knowledge, pair)? {
+        return Ok(true);
+    }
+    if closes_by(alloc, FactRule::Lines, knowledge, pair)? {
+        return Ok(true);
+    }
+    Ok(closes_by(alloc, FactRule::Elements, knowledge, pair)?)
+}
+
+/// Whether the pair is plain, by what costs little first.
+#[tactic(auto, using(crate::proofs::Tested::closed_is_stated))]
+pub fn is_plain(alloc: Global, knowledge: &LoopKnowledge, pair: &Pair) -> Result<bool, Memory>
+    ensures plain { IfOk result (λ b. b ≡ is_some (stated (survey_of knowledge.now) (pair_told pair.now))) }
+{
+    Ok(closes(alloc, knowledge, pair)?)
 }

@@ -3,3 +3,4 @@ pub mod Pairs
 pub mod Forms
 pub mod Sound
 mod Examples
+pub mod Either

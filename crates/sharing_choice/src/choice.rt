@@ -136,6 +136,21 @@ pub fn choose(
     })
 }
 
+/// The same choices alone. No derivation is made for them.
+pub fn shared_choices(
+    alloc: Global,
+    program: &Program,
+    active: &NameSet,
+    loops: &[Option<LoopPairs>],
+    givens: &[Given],
+) -> Result<Choices, Memory>
+    ensures choices { IfOk result (λ c. c.entries ≡ spec.shared_choices program.now (λ x. has_name_lem x active.now.names) (loops_of loops.now) givens.now) }
+{
+    let unproved = unproved_choices(alloc, program, active)?;
+    let entries = chosen_all(alloc, loops, unproved.entries.as_slice(), givens)?;
+    Ok(Choices { entries })
+}
+
 /// The stated derivations of the plain pairs of all names with these choices, but of those whose increments are collected by iteration.
 pub fn plain_derivations(
     alloc: Global,

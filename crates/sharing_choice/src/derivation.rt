@@ -40,7 +40,7 @@ fn is_accepted_for(
 }
 
 /// A copy of the first of the derivations given for the pair that is accepted.
-fn given_for(
+pub fn given_for(
     alloc: Global,
     around: &LoopPairs,
     pair: &Pair,

@@ -7,4 +7,4 @@ mod derivation;
 mod derivations;
 mod shown;
 
-pub use choice::{SharingChoice, choose, plain_derivations};
+pub use choice::{SharingChoice, choose, plain_derivations, shared_choices};

@@ -1,18 +1,20 @@
 //! Whether each pair of some names is shown to be disjoint.
 
-ghost use Rattle.std.specs.Prelude.{◌≡◌, ◌≤◌, [], drop, length, if◌then◌else◌, option_map, Some, IfOk};
+ghost use Rattle.std.specs.Prelude.{◌≡◌, ◌||◌, ◌≤◌, [], drop, length, if◌then◌else◌, is_some, option_map, Some, IfOk};
 ghost use Rattle.std.specs.List.{list_all};
 ghost use Rattle.fl_types.specs.Sharing.{has_name as has_name_lem};
 ghost use Rattle.index_knowledge.specs.Told.{pair_told};
+ghost use Rattle.certificate_rules.specs.Plain.{stated};
 ghost use Rattle.certificate_rules.specs.Surveys.{numbered as numbered_lem};
 ghost use Rattle.certificate_check.specs.Pairs.{loop_of, pair_at as pair_at_lem};
 ghost use Rattle.certificate_check.specs.Flaws.{loops_of};
 ghost use Rattle.sharing_choice.specs.Choosing as spec;
 
-use crate::derivation::derivation_for;
+use crate::derivation::given_for;
 use acceptance::numbered;
 use certificate::Given;
 use certificate_check::{LoopPairs, pair_at};
+use disjoint_prover::is_plain;
 use fl_base::{Memory, Name};
 use fl_types::Access;
 use index_knowledge::Pair;
@@ -24,6 +26,36 @@ pub fn has_name(name: &Name, names: &[Name]) -> bool
     names.iter().any(|other| name.is(other))
 }
 
+fn is_given(
+    alloc: Global,
+    around: &LoopPairs,
+    pair: &Pair,
+    givens: &[Given],
+) -> Result<bool, Memory>
+    ensures { IfOk result (λ b. b ≡ is_some (spec.given_for (loop_of around.now) givens.now (pair_told pair.now))) }
+{
+    match given_for(alloc, around, pair, givens)? {
+        Some(_) => Ok(true),
+        None => Ok(false),
+    }
+}
+
+fn is_plain_or_given(
+    alloc: Global,
+    around: &LoopPairs,
+    pair: &Pair,
+    givens: &[Given],
+) -> Result<bool, Memory>
+    ensures { IfOk result (λ b. b ≡ (is_some (stated (loop_of around.now).survey (pair_told pair.now)) || is_some (spec.given_for (loop_of around.now) givens.now (pair_told pair.now)))) }
+{
+    if is_plain(alloc, &around.knowledge, pair)? {
+        return Ok(true);
+    }
+    Ok(is_given(alloc, around, pair, givens)?)
+}
+
+/// Whether the pair has a derivation, without making the one that is stated for it.
+#[tactic(auto, using(crate::proofs::Either::shown_is))]
 fn is_shown(
     alloc: Global,
     around: &LoopPairs,
@@ -32,10 +64,7 @@ fn is_shown(
 ) -> Result<bool, Memory>
     ensures { IfOk result (λ b. b ≡ spec.is_shown (loop_of around.now) givens.now (pair_told pair.now)) }
 {
-    match derivation_for(alloc, around, pair, givens)? {
-        Some(_) => Ok(true),
-        None => Ok(false),
-    }
+    Ok(is_plain_or_given(alloc, around, pair, givens)?)
 }
 
 /// Whether the pair of the accesses with two numbers is shown, where they make one of these names.
