@@ -18,7 +18,8 @@ use Rattle.program_certificates.specs.Choices.{choices_with}
 use Rattle.sound_programs.specs.Uses.{outer_use}
 use Rattle.sound_programs.proofs.Programs.{programs_sound}
 use Rattle.sound_programs.proofs.Transposing.{accepted_transposed}
-use Rattle.shared_law.specs.Known.{KnownIsCalm, KnownIsTransposed, known_world}
+use Rattle.run_law.proofs.Machines.{machine_accepted}
+use Rattle.shared_law.specs.Known.{KnownIsCalm, KnownIsTransposed, KnownMachineIsTransposed, known_world}
 use Rattle.shared_law.proofs.Choices.{known_fit}
 use Rattle.shared_law.proofs.Programs.{reads_apart}
 
@@ -48,4 +49,9 @@ known_calm p of wrt values givens limits words s2 j a small run stop =
 pub known_transposed : KnownIsTransposed
 known_transposed p of wrt values givens limits words vs seed s2 j d a small run stop like wide long bounded dead there content asked active =
     accepted_transposed p of wrt values (choice_in (choices_with p (is_active p of wrt) givens)) limits words vs seed s2 j d a (known_fit p of wrt givens a)
+    (reads_apart p of wrt values givens limits words s2 j a small run stop) small run stop like wide long bounded dead there content asked active
+
+pub known_machine : KnownMachineIsTransposed
+known_machine p of wrt values givens limits words vs seed s2 j d us a stands small run stop like wide long bounded dead there content asked active =
+    machine_accepted p of wrt values (choice_in (choices_with p (is_active p of wrt) givens)) limits words vs seed s2 j d us a (known_fit p of wrt givens a) stands
     (reads_apart p of wrt values givens limits words s2 j a small run stop) small run stop like wide long bounded dead there content asked active

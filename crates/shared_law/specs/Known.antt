@@ -21,6 +21,9 @@ use Rattle.certificate.specs.declared.derivation.Given.{Given}
 use Rattle.adjoint_sets.specs.Names.{is_active, is_needed}
 use Rattle.loop_choices.specs.Choosing.{choice_in}
 use Rattle.program_certificates.specs.Choices.{choices_with}
+use Rattle.undo_steps.specs.UndoSteps.{UndoTrees}
+use Rattle.undo_steps.specs.UndosStand.{AllUndoStand}
+use Rattle.run_law.specs.Machine.{names_in, machine_cells}
 use Rattle.sound_programs.specs.Uses.{outer_use}
 use Rattle.sound_programs.specs.Accepted.{IsAccepted, world_of_program}
 
@@ -54,3 +57,18 @@ KnownIsTransposed =
     → ((q : ℕ) → has_name (name_at w.site.keys q) of ≡ false → slice_index seed q ≡ 0)
     → j < w.shared → content s j ≡ Some (Ring d) → has_name (name_at w.site.keys j) wrt ≡ true → is_active p of wrt (name_at w.site.keys j) ≡ true
     → slice_index (reverse_run w (stmt_trees p.body) s vs seed).cells (w.shared + j) ≡ adjoint_of (program_tree p) (shapes_of p values) words seed j
+
+-- and so does the machine of reverse sweeps, from statements that stand for what they undo with these choices
+abbrev pub KnownMachineIsTransposed : Type 0
+KnownMachineIsTransposed =
+    (p : Program) (of wrt : List (List ℕ)) (values : List Entry) (givens : List Given) (limits : Limits) (words vs seed : List ℕ) (s2 : Cells)
+    (j : ℕ) (d : Dual) (us : UndoTrees)
+    → let w = known_world p of wrt values givens in
+    let s = entry_cells (program_tree p) (shapes_of p values) words in
+    IsAccepted p of wrt → AllUndoStand (names_in p values) w us (stmt_trees p.body) → All (λ x. x < 2 ^ 64) words
+    → (run_of (program_tree p) (shapes_of p values) (is_needed p (is_active p of wrt)) s).out ≡ Ok s2
+    → first_stop by_conflict limits (events (run_of (program_tree p) (shapes_of p values) (is_needed p (is_active p of wrt)) s).log) ≡ at_end
+    → Like (outer_use p of wrt) w.site.keys vs s2 → length vs ≡ length w.site.keys → length seed ≡ length w.site.keys → AreWords seed
+    → ((q : ℕ) → has_name (name_at w.site.keys q) of ≡ false → slice_index seed q ≡ 0)
+    → j < w.shared → content s j ≡ Some (Ring d) → has_name (name_at w.site.keys j) wrt ≡ true → is_active p of wrt (name_at w.site.keys j) ≡ true
+    → slice_index (machine_cells p values w words vs seed us) (w.shared + j) ≡ adjoint_of (program_tree p) (shapes_of p values) words seed j

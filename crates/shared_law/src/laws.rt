@@ -1,5 +1,5 @@
 ghost use Rattle.shared_law.specs.Apart.{KnownChoicesFit, ReadsAreApart, ReadsAreEvaluated};
-ghost use Rattle.shared_law.specs.Known.{KnownIsCalm, KnownIsTransposed};
+ghost use Rattle.shared_law.specs.Known.{KnownIsCalm, KnownIsTransposed, KnownMachineIsTransposed};
 
 /// The choices that go by what is known of a program's loops fit. It does nothing.
 pub fn known_choices_fit()
@@ -27,4 +27,9 @@ pub fn known_runs_are_calm()
 /// seed on the names of `of` alone. It does nothing.
 pub fn known_is_transposed()
     ensures { KnownIsTransposed }
+{}
+
+/// So does the machine of reverse sweeps. It does nothing.
+pub fn known_machine_is_transposed()
+    ensures { KnownMachineIsTransposed }
 {}

@@ -4,6 +4,6 @@
 mod laws;
 
 pub use laws::{
-    known_choices_fit, known_is_transposed, known_runs_are_calm, reads_are_apart,
-    reads_are_evaluated,
+    known_choices_fit, known_is_transposed, known_machine_is_transposed, known_runs_are_calm,
+    reads_are_apart, reads_are_evaluated,
 };
