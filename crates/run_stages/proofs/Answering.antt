@@ -1,5 +1,5 @@
 -- What the sweeps of a run leave is what is answered.
-use Rattle.std.proofs.Common.{◌≡◌, ℕ, ◌-◌, ◌%◌, ◌^◌, Bool, true, List, ◌++◌, length, drop, None, Result, Ok, Err, IfOk, refl, sym, ap, subst, ◌∙◌}
+use Rattle.std.proofs.Common.{◌≡◌, ℕ, ◌%◌, ◌^◌, Bool, List, ◌++◌, length, None, Result, Ok, Err, IfOk, refl, sym, ap, subst, ◌∙◌}
 use Rattle.fl_ast.specs.declared.stmt.Program.{Program}
 use Rattle.fl_ast.specs.Tree.{program_tree}
 use Rattle.fl_types.specs.declared.choice.Chosen.{Chosen}
@@ -21,7 +21,7 @@ use Rattle.adjoint_rules.specs.Needed.{AreNeeded}
 use Rattle.adjoint_sets.specs.Names.{is_active, is_needed}
 use Rattle.adjoint_sets.proofs.Same.{needed_is}
 use Rattle.forward_law.specs.Forward.{tape_back}
-use Rattle.reverse_run.specs.Undoing.{swept_back, swept_adds}
+use Rattle.reverse_run.specs.Undoing.{swept_back}
 use Rattle.sound_programs.specs.Accepted.{IsAccepted}
 use Rattle.data_io.specs.declared.answer.Answer.{Answer}
 use Rattle.answers.specs.Runs.{shown_at, values_of, adjoints_of}

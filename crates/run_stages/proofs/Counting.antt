@@ -1,6 +1,5 @@
 -- The atomic additions that the machine makes are those that are counted over the program.
-use Rattle.std.proofs.Common.{◌≡◌, ℕ, Bool, true, false, not, ◌&&◌, Option, Some, None, List, length, refl, sym, ap, ◌∙◌}
-use Rattle.fl_ast.specs.declared.directive.Directive.{Directive}
+use Rattle.std.proofs.Common.{◌≡◌, ℕ, Bool, true, false, not, ◌&&◌, Some, None, List, length, refl, sym, ap, ◌∙◌}
 use Rattle.fl_ast.specs.declared.stmt.Program.{Program}
 use Rattle.fl_ast.specs.Readable.{IsReadable}
 use Rattle.fl_ast.specs.Tree.{Statement, assignment, branch, loop, Statements, no_statements, statement, Arms, no_arms, arm, program_tree, stmt_trees}

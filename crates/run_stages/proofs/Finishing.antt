@@ -1,13 +1,11 @@
 -- What the files say of a run that is done.
-use Rattle.std.proofs.Common.{◌≡◌, ℕ, ◌+◌, Bool, true, false, if◌then◌else◌, List, ◌∷◌, Option, Some, None, Result, Ok, Err, IfOk, OnOk, Vec, Global, refl, sym, ap, subst, ◌∙◌}
+use Rattle.std.proofs.Common.{◌≡◌, ℕ, ◌+◌, List, ◌∷◌, Option, Some, Result, Ok, Err, IfOk, OnOk, Vec, Global, refl, sym, ap, subst, ◌∙◌}
 use Rattle.outside.specs.States.{Files}
 use Rattle.ending.specs.declared.early.Early.{Early}
-use Rattle.ending.specs.Stage.{Continues}
 use Rattle.ending.specs.declared.status.Status.{Status}
 use Rattle.ending.specs.declared.status.Status.TheVariants.{Done}
-use Rattle.ending.specs.Plan.{Plan, Answers, Says, LeadsTo, answered}
+use Rattle.ending.specs.Plan.{Plan, Answers, LeadsTo, answered}
 use Rattle.ending.proofs.Done.{said_undone, answer_done}
-use Rattle.fl_ast.specs.declared.stmt.Program.{Program}
 use Rattle.formad_words.specs.declared.words.Request.{Request}
 use Rattle.program_stage.proofs.ProgramDone.{subject_done}
 use Rattle.data_stages.proofs.DataDone.{args_done, seed_done, certificate_done, layout_done}

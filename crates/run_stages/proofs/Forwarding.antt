@@ -1,8 +1,8 @@
 -- What is due for the stops of a run.
-use Rattle.std.proofs.Common.{◌≡◌, ℕ, ◌+◌, List, [], Result, Ok, Err, refl, sym, ap, subst, ◌∙◌}
+use Rattle.std.proofs.Common.{Bool, ◌≡◌, ℕ, ◌+◌, List, [], Result, Ok, Err, sym, ap, subst, ◌∙◌}
 use Rattle.ending.specs.declared.early.Early.{Early}
-use Rattle.ending.specs.Stage.{IsSaying, IsSaid, IsPart}
-use Rattle.ending.specs.Plan.{Plan, LeadsTo}
+use Rattle.ending.specs.Stage.{IsSaying, IsPart}
+use Rattle.ending.specs.Plan.{LeadsTo}
 use Rattle.ending.proofs.Follow.{says_part, wants}
 use Rattle.fl_ast.specs.declared.stmt.Program.{Program}
 use Rattle.fl_ast.specs.Tree.{program_tree}

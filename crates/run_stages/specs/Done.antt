@@ -1,5 +1,5 @@
 -- What a run has written where it is done.
-use Rattle.std.specs.Prelude.{ℕ, ◌+◌, ◌≡◌, true, List, Option, Some, Ok}
+use Rattle.std.specs.Prelude.{ℕ, ◌+◌, ◌≡◌, true, List, Some, Ok}
 use Rattle.std.specs.List.{list_all}
 use Rattle.outside.specs.States.{Files}
 use Rattle.fl_types.specs.Declarations.{is_ring_argument}

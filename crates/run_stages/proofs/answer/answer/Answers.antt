@@ -1,5 +1,5 @@
 use Rattle.std.proofs.Common.{ap, ◌∙◌}
-use Rattle.ending.proofs.Follow.{goes_in, ends_in, gives, wants}
+use Rattle.ending.proofs.Follow.{goes_in, ends_in, gives}
 use Rattle.adjoint_sets.specs.Names.{is_needed}
 use Rattle.adjoint_sets.proofs.Same.{active_is}
 use Rattle.run_stages.proofs.answer.answer.Goals as goal

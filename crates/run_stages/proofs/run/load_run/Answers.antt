@@ -1,4 +1,4 @@
-use Rattle.ending.proofs.Follow.{goes_on, ends_at, ends_part, stands}
+use Rattle.ending.proofs.Follow.{goes_on, ends_at, stands}
 use Rattle.run_stages.proofs.Finishing.{run_told}
 use Rattle.run_stages.proofs.run.load_run.Goals as goal
 
