@@ -12,9 +12,10 @@ use Rattle.meaning.proofs.Contents.{place_named}
 use Rattle.index_forms.specs.Loops.{HeadedLoop}
 use Rattle.index_law.specs.Meetings.{Evaluated, place_in}
 use Rattle.index_law.proofs.GroupKeys.{keys_kept}
-use Rattle.apart_law.specs.Apart.{LoopsAreApart, NumbersAreOwn}
+use Rattle.apart_law.specs.Apart.{LoopsAreApart, NumbersAreOwn, PairsAreValued}
 use Rattle.apart_law.proofs.Running.{IsRun}
 use Rattle.apart_law.proofs.Numbering.{readable_numbered}
+use Rattle.apart_law.proofs.Respecting.{valued}
 use Rattle.apart_law.proofs.Differing.{apart}
 
 -- the key of a place
@@ -42,3 +43,8 @@ loops_apart decls active l numbers site heads cells h survey x all i j p differ 
 
 pub numbers_own : NumbersAreOwn
 numbers_own p r l i = readable_numbered p r l i
+
+pub pairs_valued : PairsAreValued
+pairs_valued decls l numbers site heads cells h survey i j differ a b =
+    let run : IsRun decls l site heads cells = record { begun = h.begun; outer = h.outer; ring = h.ring; free = h.run; sound = h.sound; numbers = numbers; survey = survey } in
+    valued decls l site heads cells run i j a b differ

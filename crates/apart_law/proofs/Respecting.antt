@@ -38,7 +38,7 @@ use Rattle.index_law.specs.Valuations.{is_of_instance, StandsForTwo}
 use Rattle.index_law.specs.Worth.{HoldsKnown}
 use Rattle.index_law.proofs.Nodes.{sound_all}
 use Rattle.index_law.proofs.GroupKeys.{keys_kept}
-use Rattle.index_law.proofs.Respects.{respected}
+use Rattle.index_law.proofs.Respects.{placed, respected}
 use Rattle.index_law.proofs.Starts.{known_at_start_holds}
 use Rattle.index_law.proofs.Fixed.{unwritten_fixed, fixed_at_start}
 use Rattle.index_law.proofs.Iterations.{iteration_out}
@@ -59,8 +59,9 @@ use Rattle.certificate_rules.specs.Disjoint.{DifferentIterations, Respects, Disj
 use Rattle.index_knowledge.specs.Knowledge.{KnownFact, KnownPair, is_write, is_fact}
 use Rattle.loop_scenes.specs.Turns.{last_turn_of}
 use Rattle.loop_pairs.specs.Known.{bare, bare_accesses, survey_by, nest_of}
+use Rattle.apart_law.specs.Apart.{HasValues, AreValued}
 use Rattle.apart_law.proofs.Running.{IsRun}
-use Rattle.apart_law.proofs.Located.{Located, located, beside, form_at, agrees_at, in_number}
+use Rattle.apart_law.proofs.Located.{Located, located, beside, form_at, agrees_at, in_number, number_in, number_of}
 use Rattle.apart_law.proofs.Facts.{facts_of_two, one_writes, one_name, served}
 use Rattle.apart_law.proofs.Counters.{different, second_lies}
 use Rattle.apart_law.proofs.SpotPaths.{spot_paths}
@@ -433,3 +434,47 @@ module _ (decls : List Decl) (l : HeadedLoop) (site : Site) (heads : Heads) (cel
     pub never : i ≢ j → (m n : ℕ) → Placed m n a.access b.access → (p : KnownPair) → p.first ≡ m → p.second ≡ n → p.nest ≡ nest_of l.loop → (f g : Forms) → numbered (loop_forms decls l One) m ≡ Some f → numbered (loop_forms decls l Two) n ≡ Some g →
         Disjoint (survey_by decls l) p f g → (q : ℕ) → place_in site l.loop heads cells i a ≡ Some q → place_in site l.loop heads cells j b ≡ Some q → ⊥
     never d m n at p e e2 e3 f g ff gg disjoint q x y = disjoint v (respects d m n a.access b.access at p e e2 e3) (same_values_at m n at q x y f g ff gg)
+
+    -- ---- what was evaluated has its values
+
+    values_had : (side : Side) (k : ℕ) (e : Evaluated site l.loop heads cells k) (w : Viewed) (n : ℕ) → numbered (loop_forms decls l side) n ≡ Some (subscript_forms w e.access.place.subscripts) → Fits v w site l.loop heads cells k e →
+        HasValues v (loop_forms decls l side) site l heads cells k e n
+    values_had side k e w n there fits =
+        by_result (values_of e.access.place.subscripts e.group.site e.group.cells).out refl (placed site l.loop heads cells run.free k e)
+      where
+        by_result : (r : Result (List Value) Cause) → (values_of e.access.place.subscripts e.group.site e.group.cells).out ≡ r → (p : ℕ) × (place_at e.group.site e.access.place.name r ≡ Some p) → HasValues v (loop_forms decls l side) site l heads cells k e n
+        by_result (Err x) h g = let i = g.1 in cc
+        by_result (Ok vs) h g = record {
+          form = subscript_forms w e.access.place.subscripts;
+          there = there;
+          subscripts = vs;
+          had = h;
+          worth = sound_all v w 0 e.access.place.subscripts e.group.site e.group.cells fits.scalars fits.nodes vs h (fits.indices vs h);
+        }
+
+    -- where they stand among the loop's accesses
+    placed_both : (m n : ℕ) × Placed m n a.access b.access
+    placed_both =
+        let x = number_in a.access one.spot.accesses (subst (λ (os : List Occurrence). In a.access os) own_one.accesses a.stands) in
+        let y = number_in b.access two.spot.accesses (subst (λ (os : List Occurrence). In b.access os) own_two.accesses b.stands) in
+        let t = number_of (spots One) 0 one.spot x.0 a.access (laid One) one.among x.1 in
+        let u = number_of (spots Two) 0 two.spot y.0 b.access (laid Two) two.among y.1 in
+        (t.number, u.number, record { first = t.found; second = u.found; of_first = t.is; of_second = u.is })
+
+    pub valued : i ≢ j → AreValued decls l site heads cells i j a b
+    valued d =
+        let m = placed_both.0 in
+        let n = placed_both.1 in
+        let at = placed_both.2 in
+        let first = subst (λ (z : Spot). Met v (c One) z a.group) (sym at.of_first) own_one in
+        let second = subst (λ (z : Spot). Met v (c Two) z b.group) (sym at.of_second) own_two in
+        let ma = agrees_at v (c One) at.first.spot.known at.first.spot.before a.group.site a.group.cells at.first.spot.accesses at.first.at a.access at.first.here first.agrees in
+        let mb = agrees_at v (c Two) at.second.spot.known at.second.spot.before b.group.site b.group.cells at.second.spot.accesses at.second.at b.access at.second.here second.agrees in
+        record {
+          valuation = v;
+          first = m;
+          second = n;
+          one = values_had One i a (view_at One m a.access at.first) m (form_is One m a.access at.first) (record { scalars = first.known; nodes = ma.0; indices = ma.1 });
+          two = values_had Two j b (view_at Two n b.access at.second) n (form_is Two n b.access at.second) (record { scalars = second.known; nodes = mb.0; indices = mb.1 });
+          respects = λ p e f g. respects d m n a.access b.access at p e f g;
+        }

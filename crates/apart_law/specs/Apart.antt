@@ -1,5 +1,5 @@
 -- Accesses of a loop whose pair is shown never fall on one place in different iterations of a run without a conflict.
-use Rattle.std.specs.Prelude.{◌≡◌, ◌≢◌, ℕ, ◌<◌, Bool, true, List, [], ◌∷◌, Some, Ok}
+use Rattle.std.specs.Prelude.{◌≡◌, ◌≢◌, ℕ, ℤ, ◌<◌, Bool, true, List, [], ◌∷◌, Some, Ok}
 use Rattle.std.specs.List.{AllByRecursion}
 use Rattle.fl_ast.specs.declared.decl.Decl.{Decl}
 use Rattle.fl_ast.specs.declared.stmt.Program.{Program}
@@ -7,16 +7,25 @@ use Rattle.fl_ast.specs.Readable.{IsReadable}
 use Rattle.fl_ast.specs.Tree.{stmt_trees}
 use Rattle.fl_types.specs.declared.access.AccessKind.TheVariants.{Read}
 use Rattle.fl_types.specs.Sharing.{is_ring_name}
+use Rattle.meaning.specs.declared.value.Value.{Value}
+use Rattle.meaning.specs.Values.{whole_numbers}
 use Rattle.meaning.specs.Sites.{Cells, Site, in_iteration}
+use Rattle.meaning.specs.Expressions.{values_of}
 use Rattle.meaning.specs.Statements.{Heads, iterations, turns}
 use Rattle.meaning.specs.Reached.{iteration_cells, HoldsAtAll, IsSound}
 use Rattle.meaning.specs.Groups.{iteration_of}
+use Rattle.index_forms.specs.declared.form.Side.TheVariants.{One, Two}
+use Rattle.index_forms.specs.Form.{Atom, Forms}
+use Rattle.index_forms.specs.Sums.{values}
+use Rattle.index_forms.specs.Walk.{loop_forms}
 use Rattle.index_forms.specs.Loops.{HeadedLoop, headed_loops_of_all, inside}
 use Rattle.index_ranges.specs.Ranges.{ranges_in}
 use Rattle.index_law.specs.Meetings.{In, FreeRun, Evaluated, place_in}
 use Rattle.index_law.specs.Starts.{IsBegun}
-use Rattle.certificate_rules.specs.Surveys.{IsSurvey, range_of}
-use Rattle.loop_pairs.specs.Known.{survey_by, known_loop}
+use Rattle.index_knowledge.specs.Knowledge.{KnownPair}
+use Rattle.certificate_rules.specs.Surveys.{numbered, IsSurvey, range_of}
+use Rattle.certificate_rules.specs.Disjoint.{Respects}
+use Rattle.loop_pairs.specs.Known.{survey_by, known_loop, nest_of}
 use Rattle.sharing_choice.specs.Choosing.{pairs_of}
 use Rattle.program_certificates.specs.Choices.{NeverMeet}
 use Rattle.apart_law.specs.Numbers.{AreNumbered}
@@ -57,3 +66,27 @@ LoopsAreApart = (decls : List Decl) (active : List ℕ → Bool) (l : HeadedLoop
 -- and so are the numbers of a program that some text reads as
 abbrev pub NumbersAreOwn : Type 0
 NumbersAreOwn = (p : Program) → IsReadable p → (l : HeadedLoop) → In l (headed_loops_of_all [] (stmt_trees p.body)) → HasOwnNumbers l
+
+-- ---- valuations
+
+-- under the valuation the forms of an access that was evaluated, by its number among the loop's, are the subscripts that it had
+pub record HasValues (v : Atom → ℤ) (forms : List Forms) (site : Site) (l : HeadedLoop) (heads : Heads) (cells : Cells) (k : ℕ) (e : Evaluated site l.loop heads cells k) (number : ℕ) : Type 0 where
+  pub form : Forms
+  pub there : numbered forms number ≡ Some form
+  pub subscripts : List Value
+  pub had : (values_of e.access.place.subscripts e.group.site e.group.cells).out ≡ Ok subscripts
+  pub worth : values v form ≡ whole_numbers subscripts
+
+-- for any two accesses that different iterations of an instance evaluate there is a valuation that has the values of both and respects their pair
+pub record AreValued (decls : List Decl) (l : HeadedLoop) (site : Site) (heads : Heads) (cells : Cells) (i j : ℕ) (a : Evaluated site l.loop heads cells i) (b : Evaluated site l.loop heads cells j) : Type 0 where
+  pub valuation : Atom → ℤ
+  pub first : ℕ
+  pub second : ℕ
+  pub one : HasValues valuation (loop_forms decls l One) site l heads cells i a first
+  pub two : HasValues valuation (loop_forms decls l Two) site l heads cells j b second
+  pub respects : (p : KnownPair) → p.first ≡ first → p.second ≡ second → p.nest ≡ nest_of l.loop → Respects valuation (survey_by decls l) p
+
+abbrev pub PairsAreValued : Type 0
+PairsAreValued =
+    (decls : List Decl) (l : HeadedLoop) → HasOwnNumbers l → (site : Site) (heads : Heads) (cells : Cells) → IsInstance decls l site heads cells → IsSurvey (survey_by decls l)
+    → (i j : ℕ) → i ≢ j → (a : Evaluated site l.loop heads cells i) (b : Evaluated site l.loop heads cells j) → AreValued decls l site heads cells i j a b

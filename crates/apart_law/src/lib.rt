@@ -4,4 +4,4 @@
 
 mod laws;
 
-pub use laws::{loops_are_apart, numbers_are_own, ranges_hold};
+pub use laws::{loops_are_apart, numbers_are_own, pairs_are_valued, ranges_hold};
